@@ -1,0 +1,2 @@
+//! The model of the frozen form: definitions that the crates above cite, and the laws over them.
+#![tactic(auto)]

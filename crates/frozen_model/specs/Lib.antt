@@ -1,1 +1,10 @@
 pub mod Bits
+pub mod BitLaws
+pub mod Trees
+pub mod Values
+pub mod Layouts
+pub mod Packing
+pub mod Holding
+pub mod Walk
+pub mod Files
+pub mod Rows

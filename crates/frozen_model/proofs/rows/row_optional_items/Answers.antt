@@ -1,0 +1,25 @@
+use Rattle.std.proofs.Common.{refl}
+use Rattle.std.specs.Str.{is_utf8, chars}
+use lib.Utf8.{encode}
+use Rattle.frozen_model.specs.Bits.{field, digits}
+use Rattle.frozen_model.proofs.rows.row_optional_items.Goals as goal
+
+pub returns-clause-first : goal.returns-clause-first
+unfolding field digits is_utf8 chars encode
+returns-clause-first c = record { packed = refl; opened = refl }
+
+pub returns-clause-measured : goal.returns-clause-measured
+unfolding field digits is_utf8 chars encode
+returns-clause-measured c = record { reached = refl; rests = refl }
+
+pub returns-clause-dirty : goal.returns-clause-dirty
+unfolding field digits is_utf8 chars encode
+returns-clause-dirty c = refl
+
+pub returns-clause-second : goal.returns-clause-second
+unfolding field digits is_utf8 chars encode
+returns-clause-second c = record { packed = refl; opened = refl }
+
+pub returns-clause-second_dirty : goal.returns-clause-second_dirty
+unfolding field digits is_utf8 chars encode
+returns-clause-second_dirty c = refl

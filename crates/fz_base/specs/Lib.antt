@@ -1,0 +1,6 @@
+pub mod Counts
+pub mod Files
+pub mod Sink
+pub mod MemoryFiles
+pub mod MemorySinks
+pub mod Whole

@@ -1,0 +1,4 @@
+pub mod Words
+pub mod Writes
+pub mod ReadFields
+pub mod Signs

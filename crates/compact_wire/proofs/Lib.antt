@@ -1,0 +1,16 @@
+pub mod DigitLaws
+pub mod ThinLaws
+pub mod NumberLaws
+pub mod NumberSteps
+pub mod Signed
+pub mod ScalarLaws
+pub mod SequenceLaws
+pub mod MapLaws
+pub mod StructLaws
+pub mod ReadSteps
+pub mod WireLaws
+pub mod AnswerLaws
+pub mod CanonLaws
+pub mod WriteSteps
+pub mod FitLaws
+pub mod Weights

@@ -1,0 +1,11 @@
+pub mod Bytes
+pub mod Number
+pub mod Node
+pub mod Codes
+pub mod Spells
+pub mod Canon
+pub mod View
+pub mod Answers
+pub mod Reads
+pub mod Writes
+pub mod Thin

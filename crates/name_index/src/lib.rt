@@ -1,0 +1,8 @@
+//! Names found by hash: where each of a list of names stood first.
+#![tactic(auto)]
+
+mod index;
+#[cfg(test)]
+mod tests;
+
+pub use index::NameIndex;

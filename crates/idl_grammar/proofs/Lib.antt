@@ -1,0 +1,4 @@
+pub mod Exact
+pub mod Loops
+pub mod CodeLoops
+pub mod Lawful

@@ -1,0 +1,8 @@
+//! Grammars over the tokens of definition texts: what a grammar's texts mean, and where the first fault of other texts stands.
+#![tactic(auto)]
+
+mod fault;
+mod laws;
+
+pub use fault::{Fault, ReadError, Stop};
+pub use laws::{HasGrammar, reading_is_exact, texts_have_one_answer};

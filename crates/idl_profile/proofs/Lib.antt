@@ -1,0 +1,2 @@
+pub mod DefLaws
+pub mod Rows

@@ -1,0 +1,4 @@
+pub mod Characters
+pub mod Numbers
+pub mod Tokens
+pub mod Spans

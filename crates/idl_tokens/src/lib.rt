@@ -1,0 +1,14 @@
+//! The tokens of definition texts in the interface definition language of Apache Thrift, each with its line.
+#![tactic(auto)]
+
+mod characters;
+mod fronts;
+mod numbers;
+mod scan;
+mod token;
+
+pub use scan::split;
+pub use token::{Placed, Span, Token, bytes_at};
+
+#[cfg(test)]
+mod tests;

@@ -1,0 +1,5 @@
+pub mod DefinitionSteps
+pub mod MemberSteps
+pub mod SizeLaws
+pub mod Sorting
+pub mod StructSteps

@@ -1,0 +1,158 @@
+//! Adding what was read to what has been defined.
+ghost use Rattle.std.specs.Prelude.{◌≡◌, ◌++◌, ◌∷◌, ◌≤◌, [], ℕ, List, IfOk, IfErr, OnOk, map, length, int_lt};
+ghost use Rattle.std.specs.List.{prefix_len};
+ghost use Rattle.idl_tokens.specs.Spans.{bytes_at as bytes_of_span};
+ghost use Rattle.idl_profile.specs.Text.{insert as insert_in, by_id as by_id_of, with_entry, with_enum, with_struct, with_item};
+ghost use Rattle.idl_fields.specs.View.{scope_of, alias_of, member_of, field_of, fields_of};
+ghost use Rattle.idl_fields.specs.Indexed.{IsIndexed};
+ghost use Rattle.idl_definitions.specs.Items.{entry, item_of};
+ghost use Rattle.idl_definitions.specs.Sized.{IsSized};
+
+use crate::items::{Choice, Item};
+use crate::measure::{enum_size, size_of_struct};
+use idl_fields::draft::{Alias, Entry, Expr, Field, Named, Parts};
+use idl_fields::{Scope, Size};
+use idl_grammar::ReadError;
+use idl_tokens::{Span, bytes_at};
+use std::alloc::Global;
+
+// The number of the next enum or struct. There is no memory for more than 2^32.
+fn next_place(named: &[Named]) -> Result<u32, ReadError>
+    ensures number { IfOk result (λ n. n ≡ length named.now) }
+    ensures error { IfErr result (λ e. e ≡ ReadError.Memory) }
+{
+    let len = named.len();
+    if len < 0x1_0000_0000 {
+        Ok(len as u32)
+    } else {
+        Err(ReadError::Memory)
+    }
+}
+
+fn add_entry(
+    alloc: Global,
+    text: &[u8],
+    scope: &mut Scope,
+    name: Span,
+    ty: Expr,
+) -> Result<(), ReadError>
+    ensures entries { OnOk result (scope.new.entries.items ≡ scope.old.entries.items ++ entry name ty ∷ []) }
+    ensures named { scope.new.named ≡ scope.old.named }
+    ensures sizes { scope.new.sizes ≡ scope.old.sizes }
+    ensures indexed { IsIndexed text.now scope.old → OnOk result (IsIndexed text.now scope.new) }
+    ensures error { IfErr result (λ e. e ≡ ReadError.Memory) }
+{
+    scope.names.push(alloc, bytes_at(text, name))?;
+    scope.entries.push(Entry { name, ty })?;
+    Ok(())
+}
+
+fn add_named(scope: &mut Scope, named: Named, size: Size) -> Result<(), ReadError>
+    ensures named { OnOk result (scope.new.named.items ≡ scope.old.named.items ++ named ∷ []) }
+    ensures sizes { OnOk result (scope.new.sizes.items ≡ scope.old.sizes.items ++ size ∷ []) }
+    ensures entries { scope.new.entries ≡ scope.old.entries }
+    ensures names { scope.new.names ≡ scope.old.names }
+    ensures error { IfErr result (λ e. e ≡ ReadError.Memory) }
+{
+    scope.named.push(named)?;
+    scope.sizes.push(size)?;
+    Ok(())
+}
+
+fn add_alias(alloc: Global, text: &[u8], scope: &mut Scope, alias: Alias) -> Result<(), ReadError>
+    ensures same { (bytes : List ℕ) → OnOk result (scope_of bytes scope.new ≡ with_entry (scope_of bytes scope.old) (alias_of bytes alias)) }
+    ensures sized { (bytes : List ℕ) → IsSized bytes scope.old → OnOk result (IsSized bytes scope.new) }
+    ensures indexed { IsIndexed text.now scope.old → OnOk result (IsIndexed text.now scope.new) }
+    ensures error { IfErr result (λ e. e ≡ ReadError.Memory) }
+{
+    let Alias { name, ty } = alias;
+    add_entry(alloc, text, scope, name, ty)
+}
+
+fn add_choice(
+    alloc: Global,
+    text: &[u8],
+    scope: &mut Scope,
+    choice: Choice,
+) -> Result<(), ReadError>
+    ensures same { (bytes : List ℕ) → OnOk result (scope_of bytes scope.new ≡ with_enum (scope_of bytes scope.old) (bytes_of_span bytes choice.name) (map (member_of bytes) choice.members.items)) }
+    ensures sized { (bytes : List ℕ) → IsSized bytes scope.old → OnOk result (IsSized bytes scope.new) }
+    ensures indexed { IsIndexed text.now scope.old → OnOk result (IsIndexed text.now scope.new) }
+    ensures error { IfErr result (λ e. e ≡ ReadError.Memory) }
+{
+    let place = next_place(&scope.named)?;
+    let Choice { name, members } = choice;
+    add_named(scope, Named::Enum(name, members), enum_size())?;
+    add_entry(alloc, text, scope, name, Expr::Enum(place))
+}
+
+fn add_struct(
+    alloc: Global,
+    text: &[u8],
+    scope: &mut Scope,
+    name: Span,
+    fields: Vec<Field>,
+) -> Result<(), ReadError>
+    ensures same { (bytes : List ℕ) → OnOk result (scope_of bytes scope.new ≡ with_struct (scope_of bytes scope.old) (bytes_of_span bytes name) (fields_of bytes fields.items)) }
+    ensures sized { (bytes : List ℕ) → IsSized bytes scope.old → OnOk result (IsSized bytes scope.new) }
+    ensures indexed { IsIndexed text.now scope.old → OnOk result (IsIndexed text.now scope.new) }
+    ensures error { IfErr result (λ e. e ≡ ReadError.Memory) }
+{
+    let place = next_place(&scope.named)?;
+    let size = size_of_struct(&scope.sizes, &fields);
+    add_named(scope, Named::Struct(name, fields), size)?;
+    add_entry(alloc, text, scope, name, Expr::Struct(place))
+}
+
+// How many fields have a lesser id, up to the first that has none.
+#[tactic(auto, using(idl_tokens::proofs::Fits::fitting))]
+fn place_of(fields: &[Field], field: &Field) -> usize
+    ensures place { result ≡ prefix_len (λ g. int_lt g.id.id field.now.id.id) fields.now }
+    ensures fits { result ≤ length fields.now }
+{
+    fields
+        .iter()
+        .take_while(|other| other.id.id < field.id.id)
+        .count()
+}
+
+// Puts a field behind those of lesser id.
+fn insert_field(fields: &mut Vec<Field>, field: Field) -> Result<(), ReadError>
+    ensures same { (text : List ℕ) → OnOk result (fields_of text fields.new.items ≡ insert_in (field_of text field) (fields_of text fields.old.items)) }
+    ensures error { IfErr result (λ e. e ≡ ReadError.Memory) }
+{
+    let place = place_of(fields, &field);
+    fields.insert(place, field)?;
+    Ok(())
+}
+
+// The fields by rising id.
+fn by_id(alloc: Global, fields: Vec<Field>) -> Result<Vec<Field>, ReadError>
+    ensures same { (text : List ℕ) → IfOk result (λ sorted. fields_of text sorted.items ≡ by_id_of (fields_of text fields.items)) }
+    ensures error { IfErr result (λ e. e ≡ ReadError.Memory) }
+{
+    let mut sorted: Vec<Field> = Vec::new(alloc);
+    for field in fields {
+        insert_field(&mut sorted, field)?;
+    }
+    Ok(sorted)
+}
+
+/// Adds what a definition or a header says.
+pub fn add_item(alloc: Global, text: &[u8], scope: &mut Scope, item: Item) -> Result<(), ReadError>
+    ensures same { (bytes : List ℕ) → OnOk result (scope_of bytes scope.new ≡ with_item (scope_of bytes scope.old) (item_of bytes item)) }
+    ensures sized { (bytes : List ℕ) → IsSized bytes scope.old → OnOk result (IsSized bytes scope.new) }
+    ensures indexed { IsIndexed text.now scope.old → OnOk result (IsIndexed text.now scope.new) }
+    ensures error { IfErr result (λ e. e ≡ ReadError.Memory) }
+{
+    match item {
+        Item::Nothing => Ok(()),
+        Item::Alias(alias) => add_alias(alloc, text, scope, alias),
+        Item::Choice(choice) => add_choice(alloc, text, scope, choice),
+        Item::Structure(parts) => {
+            let Parts { name, fields } = parts;
+            let fields = by_id(alloc, fields)?;
+            add_struct(alloc, text, scope, name, fields)
+        }
+    }
+}

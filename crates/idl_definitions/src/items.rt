@@ -1,0 +1,29 @@
+//! What a definition or a header adds to what was defined.
+use idl_fields::draft::{Alias, Member, Parts};
+use idl_tokens::Span;
+
+/// What an enum says.
+#[derive(Debug, Drop)]
+pub struct Choice {
+    pub name: Span,
+    pub members: Vec<Member>,
+}
+
+/// What a definition or a header adds.
+#[derive(Debug, Drop)]
+pub enum Item {
+    Nothing,
+    Alias(Alias),
+    Choice(Choice),
+    Structure(Parts),
+}
+
+/// What begins with a word where a definition stands.
+#[derive(Clone, Copy, Debug)]
+pub enum Begin {
+    Namespace,
+    Include,
+    Typedef,
+    Enum,
+    Struct,
+}

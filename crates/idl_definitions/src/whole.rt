@@ -1,0 +1,137 @@
+//! Reading a whole text.
+ghost use Rattle.std.specs.Prelude.{◌≡◌, ℕ, List};
+ghost use Rattle.idl_tokens.specs.Spans.{toks, tok_of, spot_of};
+ghost use Rattle.idl_tokens.specs.Tokens.{Tok};
+ghost use Rattle.idl_grammar.specs.Run.{run, Gives, outcome};
+ghost use Rattle.idl_profile.specs.Judged.{one_of as one_of_lem, no_definition, begin_of as begin_of_word, a_definition};
+ghost use Rattle.idl_profile.specs.Meaning.{Scope as Defined};
+ghost use Rattle.idl_profile.specs.Text.{item as item_that, whole};
+ghost use Rattle.idl_fields.specs.View.{scope_of};
+ghost use Rattle.idl_fields.specs.Indexed.{IsIndexed};
+ghost use Rattle.idl_definitions.specs.Items.{item_of, begin_as, turn_of, begins};
+ghost use Rattle.idl_definitions.specs.Sized.{IsSized};
+
+use crate::collect::add_item;
+use crate::headers::{read_include, read_namespace, read_typedef};
+use crate::items::{Begin, Item};
+use crate::members::read_enum;
+use crate::structs::read_struct;
+use idl_fields::{Scope, none_left, one_of, same, wrong};
+use idl_grammar::{Fault, ReadError};
+use idl_tokens::{Placed, Token, bytes_at};
+use name_index::NameIndex;
+use std::alloc::Global;
+
+fn is_refused(w: &[u8]) -> bool
+    ensures { result ≡ one_of_lem no_definition w.now }
+{
+    one_of(
+        &[b"union", b"exception", b"service", b"const", b"include"],
+        w,
+    )
+}
+
+// What a word begins where a definition stands.
+#[tactic(auto, unfolding(idl_profile::specs::Judged::begin_of))]
+fn begin_of(w: &[u8]) -> Result<Begin, Fault>
+    ensures { turn_of result ≡ begin_of_word w.now }
+{
+    if is_refused(w) {
+        Err(Fault::Unsupported)
+    } else if same(w, b"namespace") {
+        Ok(Begin::Namespace)
+    } else if same(w, b"cpp_include") {
+        Ok(Begin::Include)
+    } else if same(w, b"typedef") {
+        Ok(Begin::Typedef)
+    } else if same(w, b"enum") {
+        Ok(Begin::Enum)
+    } else if same(w, b"struct") {
+        Ok(Begin::Struct)
+    } else {
+        Err(Fault::Syntax)
+    }
+}
+
+// Whether another definition or header begins here.
+fn definition_turn(text: &[u8], placed: &Placed) -> Result<Option<Begin>, ReadError>
+    ensures { (scope : Defined) (after : Tok) → Gives begins result (outcome (a_definition scope (tok_of text.now placed.now.token) after) (spot_of text.now placed.now)) }
+{
+    match placed.token {
+        Token::Word(w) => match begin_of(bytes_at(text, w)) {
+            Ok(begin) => Ok(Some(begin)),
+            Err(fault) => Err(wrong(fault, placed)),
+        },
+        Token::Finish => Ok(None),
+        Token::Mark(b'@') => Err(wrong(Fault::Unsupported, placed)),
+        Token::Number(_) | Token::Literal(_) | Token::Mark(_) | Token::Bad => Err(wrong(
+            Fault::Syntax,
+            placed,
+        )),
+    }
+}
+
+// A definition or a header after its first word.
+#[tactic(auto, unfolding(idl_profile::specs::Text::item))]
+fn read_item<'a>(
+    alloc: Global,
+    text: &[u8],
+    scope: &Scope,
+    begin: Begin,
+    tokens: &'a [Placed],
+) -> Result<(Item, &'a [Placed]), ReadError>
+    requires sized { IsSized text.now scope.now }
+    requires indexed { IsIndexed text.now scope.now }
+    ensures { Gives (λ x. (item_of text.now x.0, toks text.now x.1.now)) result (run (item_that (scope_of text.now scope.now) (begin_as begin)) (toks text.now tokens.now)) }
+{
+    match begin {
+        Begin::Namespace => {
+            let rest = read_namespace(text, tokens)?;
+            Ok((Item::Nothing, rest))
+        }
+        Begin::Include => {
+            let rest = read_include(text, tokens)?;
+            Ok((Item::Nothing, rest))
+        }
+        Begin::Typedef => {
+            let (alias, rest) = read_typedef(alloc, text, scope, tokens)?;
+            Ok((Item::Alias(alias), rest))
+        }
+        Begin::Enum => {
+            let (choice, rest) = read_enum(alloc, text, scope, tokens)?;
+            Ok((Item::Choice(choice), rest))
+        }
+        Begin::Struct => {
+            let (parts, rest) = read_struct(alloc, text, scope, tokens)?;
+            Ok((Item::Structure(parts), rest))
+        }
+    }
+}
+
+/// What a text defines, from its tokens.
+pub fn read_definitions<'a>(
+    alloc: Global,
+    text: &[u8],
+    tokens: &'a [Placed],
+) -> Result<(Scope, &'a [Placed]), ReadError>
+    ensures { Gives (λ x. (scope_of text.now x.0, toks text.now x.1.now)) result (run whole (toks text.now tokens.now)) }
+{
+    let mut scope = Scope {
+        entries: Vec::new(alloc),
+        names: NameIndex::new(alloc),
+        named: Vec::new(alloc),
+        sizes: Vec::new(alloc),
+    };
+    let mut rest = tokens;
+    'definitions: loop {
+        let Some((first, after)) = rest.split_first() else {
+            return Err(none_left());
+        };
+        let Some(begin) = definition_turn(text, first)? else {
+            return Ok((scope, rest));
+        };
+        let (item, after) = read_item(alloc, text, &scope, begin, after)?;
+        add_item(alloc, text, &mut scope, item)?;
+        rest = after;
+    }
+}

@@ -1,0 +1,4 @@
+pub mod Dotted
+pub mod FieldSteps
+pub mod Finding
+pub mod FoundSteps

@@ -1,0 +1,91 @@
+//! Reading by the small parts of the grammar.
+
+ghost use Rattle.std.specs.Prelude.{◌≡◌, ℕ, List};
+ghost use Rattle.std.specs.Str.{bytes_eq};
+ghost use Rattle.idl_tokens.specs.Spans.{tok_of, toks};
+ghost use Rattle.idl_grammar.specs.Grammar.{token as token_that, stop as stop_of};
+ghost use Rattle.idl_grammar.specs.Run.{run, Gives};
+ghost use Rattle.idl_profile.specs.Judged.{is_mark as is_mark_of, is_word as is_word_of, is_sep as is_sep_of, a_mark, taken, one_of as one_of_lem};
+ghost use Rattle.idl_profile.specs.Text.{sep};
+
+use idl_grammar::{Fault, ReadError, Stop};
+use idl_tokens::{Placed, Token, bytes_at};
+
+/// Where tokens are wanted after the last.
+pub fn none_left() -> ReadError
+    ensures { result ≡ ReadError.Stop (stop_of Fault.Syntax 0) }
+{
+    ReadError::Stop(Stop {
+        fault: Fault::Syntax,
+        line: 0,
+    })
+}
+
+/// A fault of this token.
+pub fn wrong(fault: Fault, placed: &Placed) -> ReadError
+    ensures { result ≡ ReadError.Stop (stop_of fault placed.now.line) }
+{
+    ReadError::Stop(Stop {
+        fault,
+        line: placed.line,
+    })
+}
+
+/// Whether the bytes are the same.
+pub fn same(w: &[u8], x: &[u8]) -> bool
+    ensures { result ≡ bytes_eq w.now x.now }
+{
+    w == x
+}
+
+pub fn is_mark(mark: u8, token: Token) -> bool
+    ensures { (text : List ℕ) → result ≡ is_mark_of mark (tok_of text token) }
+{
+    match token {
+        Token::Mark(m) => m == mark,
+        _ => false,
+    }
+}
+
+pub fn is_word(text: &[u8], x: &[u8], token: Token) -> bool
+    ensures { result ≡ is_word_of x.now (tok_of text.now token) }
+{
+    match token {
+        Token::Word(w) => same(bytes_at(text, w), x),
+        _ => false,
+    }
+}
+
+fn is_sep(token: Token) -> bool
+    ensures { (text : List ℕ) → result ≡ is_sep_of (tok_of text token) }
+{
+    is_mark(b',', token) || is_mark(b';', token)
+}
+
+/// A mark.
+pub fn read_mark(mark: u8, tokens: &[Placed]) -> Result<&[Placed], ReadError>
+    ensures { (text : List ℕ) → Gives (λ x. (tt, toks text x.now)) result (run (token_that (a_mark mark)) (toks text tokens.now)) }
+{
+    let Some((first, rest)) = tokens.split_first() else {
+        return Err(none_left());
+    };
+    if is_mark(mark, first.token) {
+        Ok(rest)
+    } else {
+        Err(wrong(Fault::Syntax, first))
+    }
+}
+
+/// A comma or a semicolon, where there is one.
+pub fn read_sep(tokens: &[Placed]) -> Result<&[Placed], ReadError>
+    ensures { (text : List ℕ) → Gives (λ x. (tt, toks text x.now)) result (run sep (toks text tokens.now)) }
+{
+    let Some((first, rest)) = tokens.split_first() else {
+        return Err(none_left());
+    };
+    if is_sep(first.token) {
+        Ok(rest)
+    } else {
+        Ok(tokens)
+    }
+}

@@ -1,0 +1,95 @@
+-- A text has one answer.
+use Rattle.std.proofs.Common.{◌≡◌, ◌⊎◌, inl, inr, Bool, true, false, List, ℕ, Result, Ok, Err, refl, sym, ap, subst, ◌∙◌}
+use Rattle.std.specs.Prelude.{MatchBool, MatchResult, IfOk, IfErr, [], ◌∷◌}
+use Rattle.std.specs.List.{list_any}
+use Rattle.std.specs.Str.{IsUtf8}
+use Rattle.idl_tokens.specs.Tokens.{Toks, tokens}
+use Rattle.idl_grammar.specs.declared.fault.ReadError.{ReadError}
+use Rattle.idl_grammar.specs.declared.fault.ReadError.TheVariants as r
+use Rattle.idl_grammar.specs.Run.{run, Breaks}
+use Rattle.idl_grammar.proofs.Exact.{spelled, blamed}
+use Rattle.idl_profile.specs.Types.{Named}
+use Rattle.idl_profile.specs.Meaning as m
+use Rattle.idl_profile.specs.Text.{whole}
+use Rattle.idl_profile.specs.DefText.{has_struct, means, fault, no_root as none}
+use Rattle.idl_profile.proofs.DefLaws.{one_answer}
+use Rattle.idl_parse.specs.declared.fault.DefFault.{DefFault}
+use Rattle.idl_parse.specs.declared.fault.DefFault.TheVariants as f
+use Rattle.idl_parse.specs.declared.definition.Definition.{Definition}
+use Rattle.idl_fields.specs.declared.draft.Named as draft
+use Rattle.idl_fields.specs.declared.draft.Named.TheVariants as n
+use Rattle.idl_fields.specs.View.{nameds_of}
+use Rattle.idl_parse.specs.Faults.{fault_of, fault_of_read}
+use Rattle.idl_parse.specs.Parsed.{DefText, FirstFault, not_utf8, faulty, no_root, definition_in, definition_of, Answers}
+use Rattle.idl_parse.specs.Drafts.{is_struct}
+
+pub read-means : (text : List ℕ) (ts : Toks) (scope : m.Scope) (rest : Toks) → IsUtf8 text → ts ≡ tokens text → run whole ts ≡ Ok (scope, rest) → has_struct scope.named ≡ true
+    → DefText text (definition_in scope.named)
+read-means text ts scope rest u is e s =
+    let k : run whole (tokens text) ≡ Ok (scope, rest) = ap (run whole) (sym is) ∙ e in
+    record { utf8 = u; read = scope.named; means = record { scope = scope; rest = rest; spells = spelled whole (tokens text) scope rest k; means = refl; root = s }; is = refl }
+
+pub read-no_root : (text : List ℕ) (ts : Toks) (scope : m.Scope) (rest : Toks) → IsUtf8 text → ts ≡ tokens text → run whole ts ≡ Ok (scope, rest) → has_struct scope.named ≡ false
+    → FirstFault text f.NoRoot
+read-no_root text ts scope rest u is e s =
+    let k : run whole (tokens text) ≡ Ok (scope, rest) = ap (run whole) (sym is) ∙ e in
+    no_root u (record { scope = scope; rest = rest; spells = spelled whole (tokens text) scope rest k; root = s })
+
+pub read-stops : (text : List ℕ) (ts : Toks) (d : ReadError) → IsUtf8 text → ts ≡ tokens text → Breaks d (run whole ts) → (fault_of_read d ≡ f.NoMemory) ⊎ FirstFault text (fault_of_read d)
+read-stops text ts r.Memory u is e = inl refl
+read-stops text ts (r.Stop s) u is e = inr (faulty s u (blamed whole (tokens text) s (ap (run whole) (sym is) ∙ e)))
+
+one-definition : (text : List ℕ) (c d : List Named) → DefText text c → DefText text d → c ≡ d
+one-definition text c d p q =
+    let e : means p.read ≡ means q.read = one_answer (tokens text) (means p.read) (means q.read) p.means q.means in
+    let k : p.read ≡ q.read = cc in
+    p.is ∙ ap definition_in k ∙ sym q.is
+
+not-both : (text : List ℕ) (d : List Named) (e : DefFault) → DefText text d → FirstFault text e → ⊥
+not-both text d _ p (not_utf8 n) = n p.utf8
+not-both text d _ p (faulty s u q) = let e : means p.read ≡ fault s = one_answer (tokens text) (means p.read) (fault s) p.means q in absurd cc
+not-both text d _ p (no_root u q) = let e : means p.read ≡ none = one_answer (tokens text) (means p.read) none p.means q in absurd cc
+
+one-fault : (text : List ℕ) (d e : DefFault) → FirstFault text d → FirstFault text e → d ≡ e
+one-fault text _ _ (not_utf8 n) (not_utf8 n2) = refl
+one-fault text _ _ (not_utf8 n) (faulty s u q) = absurd (n u)
+one-fault text _ _ (not_utf8 n) (no_root u q) = absurd (n u)
+one-fault text _ _ (faulty s u p) (not_utf8 n) = absurd (n u)
+one-fault text _ _ (faulty s u p) (faulty t v q) =
+    let e : fault s ≡ fault t = one_answer (tokens text) (fault s) (fault t) p q in let k : s ≡ t = cc in ap fault_of k
+one-fault text _ _ (faulty s u p) (no_root v q) = let e : fault s ≡ none = one_answer (tokens text) (fault s) none p q in absurd cc
+one-fault text _ _ (no_root u p) (not_utf8 n) = absurd (n u)
+one-fault text _ _ (no_root u p) (faulty t v q) = let e : none ≡ fault t = one_answer (tokens text) none (fault t) p q in absurd cc
+one-fault text _ _ (no_root u p) (no_root v q) = refl
+
+pub every-text : (text : List ℕ) (result : Result Definition DefFault) → Answers text result → (d : List Named) → DefText text d → MatchResult result (λ p. definition_of p ≡ d) (λ e. e ≡ f.NoMemory)
+every-text text (Ok p) a d h = one-definition text (definition_of p) d a h
+every-text text (Err e) (inl k) d h = k
+every-text text (Err e) (inr k) d h = absurd (not-both text d e h k)
+
+pub every-fault : (text : List ℕ) (result : Result Definition DefFault) → Answers text result → (g : DefFault) → FirstFault text g → MatchResult result (λ _. ⊥) (λ e. (e ≡ g) ⊎ (e ≡ f.NoMemory))
+every-fault text (Ok p) a g h = not-both text (definition_of p) g a h
+every-fault text (Err e) (inl k) g h = inr k
+every-fault text (Err e) (inr k) g h = inl (one-fault text e g k h)
+
+pub any-struct : (text : List ℕ) (xs : List draft.Named) → list_any is_struct xs ≡ has_struct (nameds_of text xs)
+any-struct text [] = refl
+any-struct text (n.Enum w ms ∷ xs) = any-struct text xs
+any-struct text (n.Struct w fs ∷ xs) = refl
+
+-- the answer behind a whole text that was read
+pub read-rooted : (text : List ℕ) (ts : Toks) (scope : m.Scope) (rest : Toks) (result : Result Definition DefFault) → IsUtf8 text → ts ≡ tokens text → run whole ts ≡ Ok (scope, rest)
+    → IfOk result (λ d. (definition_of d ≡ definition_in scope.named) × (has_struct scope.named ≡ true)) → IfErr result (λ e. (e ≡ f.NoMemory) ⊎ ((e ≡ f.NoRoot) × (has_struct scope.named ≡ false)))
+    → Answers text result
+read-rooted text ts scope rest (Ok d) u is e ok err = subst (DefText text) (sym ok.0) (read-means text ts scope rest u is e ok.1)
+read-rooted text ts scope rest (Err k) u is e ok (inl h) = inl h
+read-rooted text ts scope rest (Err k) u is e ok (inr h) = inr (subst (FirstFault text) (sym h.0) (read-no_root text ts scope rest u is e h.1))
+
+pub is-not : (b : Bool) (A B : Type 0) → MatchBool b A B → b ≡ false → B
+is-not b A B h e = subst (λ (z : Bool). MatchBool z A B) e h
+
+pub is-so : (b : Bool) (A B : Type 0) → MatchBool b A B → b ≡ true → A
+is-so b A B h e = subst (λ (z : Bool). MatchBool z A B) e h
+
+pub struct-test : (text : List ℕ) (xs : List draft.Named) (b v : Bool) → b ≡ list_any is_struct xs → b ≡ v → has_struct (nameds_of text xs) ≡ v
+struct-test text xs b v e h = sym (any-struct text xs) ∙ sym e ∙ h

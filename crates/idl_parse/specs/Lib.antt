@@ -1,0 +1,6 @@
+pub mod Drafts
+pub mod Faults
+pub mod Meant
+pub mod Parsed
+pub mod Roots
+pub mod Told

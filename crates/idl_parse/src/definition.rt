@@ -1,0 +1,62 @@
+//! Definitions, and what refers to their types and fields.
+ghost use Rattle.std.specs.Prelude.{◌≡◌, ◌<◌, ◌^◌, true, vec_len};
+ghost use Rattle.std.specs.List.{list_any, list_all};
+ghost use Rattle.idl_fields.specs.View.{nameds_of};
+ghost use Rattle.idl_parse.specs.Meant.{definition_in, IsMeant};
+ghost use Rattle.idl_parse.specs.Drafts.{is_struct, has_few};
+
+use idl_fields::draft::{Expr, Field, Named};
+use idl_profile::Scalar;
+
+/// A definition: the enums and structs that a text defines, in the order of the text. Typedefs are resolved, and fields stand by rising id.
+#[derive(Debug, Drop)]
+pub struct Definition {
+    pub(crate) text: Vec<u8>,
+    pub(crate) named: Vec<Named>,
+    ghost rooted: { list_any is_struct named.items ≡ true },
+    ghost few: { list_all has_few named.items ≡ true },
+    ghost counted: { vec_len named < 2 ^ 32 },
+    ghost meant: { IsMeant (definition_in (nameds_of text.items named.items)) },
+}
+
+/// The default of a field, as it is written.
+#[derive(Clone, Copy, Debug)]
+pub enum DefaultRef<'a> {
+    /// None is written.
+    Without,
+    Flag(bool),
+    /// A number, also of an enum.
+    Int(i64),
+    /// What stands between the quotes.
+    Text(&'a [u8]),
+    /// `[]` or `{}`.
+    Empty,
+}
+
+// A type by its outermost part; an enum or a struct by its number.
+#[derive(Clone, Copy)]
+pub enum Place<'a> {
+    Named(u32),
+    Scalar(Scalar),
+    List(&'a Expr),
+    Set(&'a Expr),
+    Map(&'a Expr, &'a Expr),
+}
+
+/// A type of a definition.
+#[derive(Clone, Copy)]
+pub struct TypeRef<'a> {
+    pub(crate) def: &'a Definition,
+    // How many of the enums and structs, from the first on, it may name.
+    pub(crate) within: u32,
+    pub(crate) place: Place<'a>,
+}
+
+/// A field of a struct of a definition.
+#[derive(Clone, Copy)]
+pub struct FieldRef<'a> {
+    pub(crate) def: &'a Definition,
+    // How many of the enums and structs, from the first on, its type may name.
+    pub(crate) within: u32,
+    pub(crate) field: &'a Field,
+}

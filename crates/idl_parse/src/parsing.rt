@@ -1,0 +1,106 @@
+//! Reading a definition text.
+ghost use Rattle.std.specs.Prelude.{◌≡◌, ◌<◌, ◌^◌, ◌⊎◌, length, true, false, IfOk, IfErr, MatchBool, MatchResult};
+ghost use Rattle.idl_profile.specs.Types.{Named as NamedTree};
+ghost use Rattle.std.specs.List.{list_any, list_all};
+ghost use Rattle.std.specs.Str.{IsUtf8};
+ghost use Rattle.idl_profile.specs.DefText.{has_struct as has_struct_in};
+ghost use Rattle.idl_fields.specs.View.{nameds_of};
+ghost use Rattle.std.specs.Prelude.{List, ℕ};
+ghost use Rattle.idl_parse.specs.declared.fault.DefFault.{DefFault};
+ghost use Rattle.idl_parse.specs.Drafts.{is_struct as is_struct_of, has_few as has_few_of};
+ghost use Rattle.idl_parse.specs.Parsed.{DefText, FirstFault, definition_of, definition_in, Answers};
+
+use crate::definition::Definition;
+use crate::fault::DefFault;
+use idl_definitions::read_definitions;
+use idl_fields::Scope;
+use idl_fields::draft::Named;
+use idl_tokens::split;
+use std::alloc::Global;
+
+fn is_utf8(text: &[u8]) -> bool
+    ensures { MatchBool result (IsUtf8 text.now) (IsUtf8 text.now → ⊥) }
+{
+    match str::from_utf8(text) {
+        Ok(_) => true,
+        Err(_) => false,
+    }
+}
+
+/// Whether it is a struct.
+pub fn is_struct(one: &Named) -> bool
+    ensures { result ≡ is_struct_of one.now }
+{
+    match one {
+        Named::Enum(_, _) => false,
+        Named::Struct(_, _) => true,
+    }
+}
+
+fn has_struct(named: &[Named]) -> bool
+    ensures { result ≡ list_any is_struct_of named.now }
+{
+    named.iter().any(|one| is_struct(one))
+}
+
+fn has_few(one: &Named) -> bool
+    ensures { result ≡ has_few_of one.now }
+{
+    match one {
+        Named::Enum(_, _) => true,
+        Named::Struct(_, fields) => fields.len() < 0x1_0000_0000,
+    }
+}
+
+// Whether the fields of each struct are counted by 32 bits. There is no memory for more.
+fn have_few(named: &[Named]) -> bool
+    ensures { result ≡ list_all has_few_of named.now }
+{
+    named.iter().all(|one| has_few(one))
+}
+
+// The definition of these enums and structs, if one is a struct.
+fn rooted(alloc: Global, text: &[u8], named: Vec<Named>) -> Result<Definition, DefFault>
+    requires { has_struct_in (nameds_of text.now named.items) ≡ true → DefText text.now (definition_in (nameds_of text.now named.items)) }
+    ensures ok { IfOk result (λ d. (definition_of d ≡ definition_in (nameds_of text.now named.items)) × (has_struct_in (nameds_of text.now named.items) ≡ true)) }
+    ensures err { IfErr result (λ e. (e ≡ DefFault.NoMemory) ⊎ ((e ≡ DefFault.NoRoot) × (has_struct_in (nameds_of text.now named.items) ≡ false))) }
+{
+    if !has_struct(&named) {
+        return Err(DefFault::NoRoot);
+    }
+    if !have_few(&named) || named.len() >= 0x1_0000_0000 {
+        return Err(DefFault::NoMemory);
+    }
+    let text = Vec::from_slice(alloc, text)?;
+    Ok(Definition { text, named })
+}
+
+// Reads a definition text.
+fn read_text(alloc: Global, text: &[u8]) -> Result<Definition, DefFault>
+    requires { length text.now < 2 ^ 31 }
+    ensures { Answers text.now result }
+{
+    if !is_utf8(text) {
+        return Err(DefFault::NotUtf8);
+    }
+    let tokens = split(alloc, text)?;
+    let (scope, _) = read_definitions(alloc, text, &tokens)?;
+    let Scope {
+        entries: _,
+        names: _,
+        named,
+        sizes: _,
+    } = scope;
+    rooted(alloc, text, named)
+}
+
+/// Reads a definition text. It answers the definition exactly where the text means one, and else the first fault.
+pub fn parse(alloc: Global, text: &[u8]) -> Result<Definition, DefFault>
+    requires { length text.now < 2 ^ 31 }
+    ensures means { IfOk result (λ d. DefText text.now (definition_of d)) }
+    ensures refuses { IfErr result (λ e. (e ≡ DefFault.NoMemory) ⊎ FirstFault text.now e) }
+    ensures every_text { (d : List NamedTree) → DefText text.now d → MatchResult result (λ p. definition_of p ≡ d) (λ e. e ≡ DefFault.NoMemory) }
+    ensures every_fault { (f : DefFault) → FirstFault text.now f → MatchResult result (λ _. ⊥) (λ e. (e ≡ f) ⊎ (e ≡ DefFault.NoMemory)) }
+{
+    read_text(alloc, text)
+}

@@ -1,0 +1,6 @@
+use Rattle.std.proofs.Common.{◌≡◌, ◌++◌}
+use Rattle.idl_print.proofs.AnyText.{still}
+use Rattle.idl_print.proofs.text.print_named.Given as goal
+
+abbrev pub invariant-loop-i : goal.invariant-loop-i
+invariant-loop-i l = l.out.items ++ still l.text l.named l.i ≡ still l.text l.named 0

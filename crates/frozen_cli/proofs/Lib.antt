@@ -1,0 +1,9 @@
+pub mod Clauses
+pub mod Joins
+pub mod LayoutLaws
+pub mod SchemaLaws
+pub mod PackingLaws
+pub mod LeastLaws
+pub mod FileLaws
+pub mod OpeningLaws
+pub mod FieldLaws

@@ -1,0 +1,12 @@
+pub mod Refusal
+pub mod Places
+pub mod Layout
+pub mod Schema
+pub mod Packing
+pub mod File
+pub mod Opening
+pub mod Path
+pub mod Definition
+pub mod Reply
+pub mod Run
+pub mod Words

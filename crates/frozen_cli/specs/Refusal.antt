@@ -1,0 +1,95 @@
+-- Why a command is refused: the exit status and the line of each refusal.
+use Rattle.std.specs.Prelude.{◌⊎◌, ℕ, List, [], ◌∷◌, ◌++◌, codes, ⊤}
+use Rattle.std.specs.Fmt.{decimal}
+use Rattle.idl_parse.specs.declared.fault.DefFault.{DefFault}
+use Rattle.idl_parse.specs.declared.fault.DefFault.TheVariants as faults
+use Rattle.frozen_cli.specs.declared.refusal.Role.{Role}
+use Rattle.frozen_cli.specs.declared.refusal.Role.TheVariants.{Definition, Value, File}
+use Rattle.frozen_cli.specs.declared.refusal.Refusal.{Refusal}
+use Rattle.frozen_cli.specs.declared.refusal.Refusal.TheVariants.{Usage, Missing, Unreadable, TooLarge, BadDefinition, NotYetLine, NotYetByte, NoField}
+use Rattle.frozen_cli.specs.declared.refusal.Stop.{Stop}
+use Rattle.frozen_cli.specs.declared.refusal.Stop.TheVariants.{Refused, NoMemory}
+
+-- what a named file is called on err
+abbrev pub role_name : Role → List ℕ
+role_name Definition = codes "definition"
+role_name Value = codes "value"
+role_name File = codes "file"
+
+-- the number of a definition's fault, and its line where it has one
+abbrev pub fault_text : DefFault → List ℕ
+fault_text faults.NotUtf8 = codes "1"
+fault_text (faults.Syntax line) = codes "2 line " ++ decimal line
+fault_text (faults.Unsupported line) = codes "3 line " ++ decimal line
+fault_text (faults.UnknownType line) = codes "4 line " ++ decimal line
+fault_text (faults.RepeatedName line) = codes "5 line " ++ decimal line
+fault_text (faults.RepeatedId line) = codes "6 line " ++ decimal line
+fault_text (faults.BadId line) = codes "7 line " ++ decimal line
+fault_text (faults.BadDefault line) = codes "8 line " ++ decimal line
+fault_text (faults.KeyType line) = codes "9 line " ++ decimal line
+fault_text (faults.TooDeep line) = codes "10 line " ++ decimal line
+fault_text (faults.TooManyNodes line) = codes "11 line " ++ decimal line
+fault_text (faults.StructTooWide line) = codes "12 line " ++ decimal line
+fault_text faults.NoRoot = codes "13"
+fault_text faults.NoMemory = []
+
+-- the exit status
+abbrev pub status_of : Refusal → ℕ
+status_of Usage = 2
+status_of (NoField _) = 2
+status_of (TooLarge _) = 3
+status_of (BadDefinition _) = 3
+status_of (NotYetLine _) = 3
+status_of (NotYetByte _) = 3
+status_of (Missing _) = 4
+status_of (Unreadable _) = 4
+
+-- the text of the line, without its newline
+abbrev pub refusal_text : Refusal → List ℕ
+refusal_text Usage = codes "usage: frozen COMMAND WORDS"
+refusal_text (Missing role) = role_name role ++ codes " missing"
+refusal_text (Unreadable role) = role_name role ++ codes " unreadable"
+refusal_text (TooLarge role) = role_name role ++ codes " too large"
+refusal_text (BadDefinition fault) = codes "definition " ++ fault_text fault
+refusal_text (NotYetLine line) = codes "notyet line " ++ decimal line
+refusal_text (NotYetByte byte) = codes "notyet byte " ++ decimal byte
+refusal_text (NoField byte) = codes "path 2 at " ++ decimal byte
+
+-- the line on err
+abbrev pub line_of : Refusal → List ℕ
+line_of r = refusal_text r ++ 10 ∷ []
+
+-- the line on err after a failed write to out
+abbrev pub write_failed : List ℕ
+write_failed = codes "write failed" ++ 10 ∷ []
+
+-- it says that a file is missing
+abbrev pub IsMissing : Refusal → Type 0
+IsMissing (Missing _) = ⊤
+IsMissing Usage = ⊥
+IsMissing (Unreadable _) = ⊥
+IsMissing (TooLarge _) = ⊥
+IsMissing (BadDefinition _) = ⊥
+IsMissing (NotYetLine _) = ⊥
+IsMissing (NotYetByte _) = ⊥
+IsMissing (NoField _) = ⊥
+
+-- it says that a file is unreadable
+abbrev pub IsUnreadable : Refusal → Type 0
+IsUnreadable (Unreadable _) = ⊤
+IsUnreadable Usage = ⊥
+IsUnreadable (Missing _) = ⊥
+IsUnreadable (TooLarge _) = ⊥
+IsUnreadable (BadDefinition _) = ⊥
+IsUnreadable (NotYetLine _) = ⊥
+IsUnreadable (NotYetByte _) = ⊥
+IsUnreadable (NoField _) = ⊥
+
+-- it speaks of reading a file
+abbrev pub IsReading : Refusal → Type 0
+IsReading r = IsMissing r ⊎ IsUnreadable r
+
+-- the stop is a refusal with this property
+abbrev pub IsRefused : (Refusal → Type 0) → Stop → Type 0
+IsRefused P (Refused r) = P r
+IsRefused P NoMemory = ⊥

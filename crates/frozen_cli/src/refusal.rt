@@ -1,0 +1,154 @@
+// Why a command is refused, its exit status, and the line that says so.
+ghost use Rattle.std.specs.Prelude.{◌≡◌, Some, IfOk, string_bytes};
+ghost use Rattle.frozen_cli.specs.declared.refusal.Stop.TheVariants.{NoMemory};
+
+use idl_parse::DefFault;
+use std::alloc::{AllocError, AllocFailed, Global};
+use std::fmt;
+
+/// What a named file is read for.
+#[derive(Clone, Copy, Debug, PartialEq, Eq)]
+pub enum Role {
+    /// The text of the definition.
+    Definition,
+    /// The bytes of the value, in Compact Protocol.
+    Value,
+    /// A frozen file.
+    File,
+}
+
+/// Why a command is refused.
+#[derive(Clone, Copy, Debug, PartialEq, Eq)]
+pub enum Refusal {
+    /// The words have no form.
+    Usage,
+    /// No file has the name.
+    Missing(Role),
+    /// A read of the file failed.
+    Unreadable(Role),
+    /// The file is longer than its limit.
+    TooLarge(Role),
+    /// The definition is no definition text; the first fault, never a want of memory.
+    BadDefinition(DefFault),
+    /// The definition has a form that is not built yet; the line, from 1.
+    NotYetLine(u32),
+    /// The bytes have a form that is not built yet; the place, from 0.
+    NotYetByte(u64),
+    /// The path names no field; the byte at which the step begins.
+    NoField(u64),
+}
+
+/// Why a command has no output.
+#[derive(Clone, Copy, Debug, PartialEq, Eq)]
+pub enum Stop {
+    /// It is refused.
+    Refused(Refusal),
+    /// There is not enough memory.
+    NoMemory,
+}
+
+impl From<AllocError> for Stop {
+    ghost from_gives = { λ _ e. e ≡ NoMemory };
+
+    fn from(_: AllocError) -> Self {
+        Stop::NoMemory
+    }
+}
+
+impl<T: Drop> From<AllocFailed<T>> for Stop {
+    ghost from_gives = { λ _ e. e ≡ NoMemory };
+
+    fn from(_: AllocFailed<T>) -> Self {
+        Stop::NoMemory
+    }
+}
+
+impl fmt::Display for Role {
+    ghost use Rattle.std.specs.Prelude.{Some};
+    ghost use Rattle.frozen_cli.specs.Refusal.{role_name};
+
+    ghost output = { λ role. Some (role_name role) };
+
+    fn fmt<W: fmt::Write>(&self, f: &mut fmt::Formatter<W>) -> fmt::Result {
+        match self {
+            Role::Definition => write!(f, "definition"),
+            Role::Value => write!(f, "value"),
+            Role::File => write!(f, "file"),
+        }
+    }
+}
+
+/// The number of a definition's fault, and its line where it has one.
+#[derive(Clone, Copy)]
+struct FaultText(DefFault);
+
+impl fmt::Display for FaultText {
+    ghost use Rattle.std.specs.Prelude.{Some};
+    ghost use Rattle.frozen_cli.specs.Refusal.{fault_text};
+
+    ghost output = { λ it. Some (fault_text it.0) };
+
+    fn fmt<W: fmt::Write>(&self, f: &mut fmt::Formatter<W>) -> fmt::Result {
+        match self.0 {
+            DefFault::NotUtf8 => write!(f, "1"),
+            DefFault::Syntax { line } => write!(f, "2 line {line}"),
+            DefFault::Unsupported { line } => write!(f, "3 line {line}"),
+            DefFault::UnknownType { line } => write!(f, "4 line {line}"),
+            DefFault::RepeatedName { line } => write!(f, "5 line {line}"),
+            DefFault::RepeatedId { line } => write!(f, "6 line {line}"),
+            DefFault::BadId { line } => write!(f, "7 line {line}"),
+            DefFault::BadDefault { line } => write!(f, "8 line {line}"),
+            DefFault::KeyType { line } => write!(f, "9 line {line}"),
+            DefFault::TooDeep { line } => write!(f, "10 line {line}"),
+            DefFault::TooManyNodes { line } => write!(f, "11 line {line}"),
+            DefFault::StructTooWide { line } => write!(f, "12 line {line}"),
+            DefFault::NoRoot => write!(f, "13"),
+            DefFault::NoMemory => Ok(()),
+        }
+    }
+}
+
+impl fmt::Display for Refusal {
+    ghost use Rattle.std.specs.Prelude.{Some};
+    ghost use Rattle.frozen_cli.specs.Refusal.{refusal_text};
+
+    ghost output = { λ r. Some (refusal_text r) };
+
+    fn fmt<W: fmt::Write>(&self, f: &mut fmt::Formatter<W>) -> fmt::Result {
+        match self {
+            Refusal::Usage => write!(f, "usage: frozen COMMAND WORDS"),
+            Refusal::Missing(role) => write!(f, "{role} missing"),
+            Refusal::Unreadable(role) => write!(f, "{role} unreadable"),
+            Refusal::TooLarge(role) => write!(f, "{role} too large"),
+            Refusal::BadDefinition(fault) => write!(f, "definition {}", FaultText(*fault)),
+            Refusal::NotYetLine(line) => write!(f, "notyet line {line}"),
+            Refusal::NotYetByte(byte) => write!(f, "notyet byte {byte}"),
+            Refusal::NoField(byte) => write!(f, "path 2 at {byte}"),
+        }
+    }
+}
+
+impl Refusal {
+    ghost use Rattle.frozen_cli.specs.Refusal.{status_of, line_of};
+
+    /// The exit status.
+    pub fn status(self) -> u8
+        ensures { result ≡ status_of self }
+    {
+        match self {
+            Refusal::Usage | Refusal::NoField(_) => 2,
+            Refusal::TooLarge(_)
+            | Refusal::BadDefinition(_)
+            | Refusal::NotYetLine(_)
+            | Refusal::NotYetByte(_) => 3,
+            Refusal::Missing(_) | Refusal::Unreadable(_) => 4,
+        }
+    }
+
+    /// The line that is written to err, with its newline.
+    pub fn line(self, alloc: Global) -> Result<String, AllocError>
+        ensures { IfOk result (λ text. string_bytes text ≡ line_of self) }
+    {
+        format!(in alloc; "{self}\n")
+    }
+}

@@ -1,0 +1,177 @@
+// Whole runs of the program, over files and sinks in memory.
+use crate::run::run;
+use fz_base::{MemFiles, MemSink};
+use std::alloc::{AllocError, Global};
+use std::test::Fail;
+
+// The file of 5 and -1: magic and length, schema, content.
+const FILE: &[u8] =
+    b"FZ2P\x40\0\0\0\x12\x1B\x03\x4C\0\x15\0\x14\x0A\x1B\x02\x4C\x02\x14\x02\x14\0\0\x04\x14\x04\x14\x07\0\x18\x06struct\0\x02\x15\0\x14\x08\x1B\0\x18\x03i32\0\x04\x15\0\x14\x02\x1B\0\x18\x03i32\0\x14\0\x15\x02\0\x15";
+
+// A run's status, and what it wrote to out and to err.
+#[derive(Drop)]
+struct Ran {
+    status: u8,
+    out: MemSink,
+    err: MemSink,
+}
+
+// What fails in a run: the read and the write to out of that number, and the bytes that out has room for.
+#[derive(Clone, Copy)]
+struct Faults {
+    read: u64,
+    write: u64,
+    room: usize,
+}
+
+const NO_FAULTS: Faults = Faults {
+    read: 0,
+    write: 0,
+    room: 100,
+};
+
+// A list of so many bytes.
+fn filled(alloc: Global, len: usize) -> Result<Vec<u8>, AllocError> {
+    let mut bytes = Vec::with_capacity(alloc, len)?;
+    for _ in 0..len {
+        bytes.push(b' ')?;
+    }
+    Ok(bytes)
+}
+
+// Each named file: a definition, a value and its file, and others that are refused.
+fn files_of(alloc: Global, fail: u64) -> Result<MemFiles, AllocError> {
+    let held = [
+        ("def", b"struct P {1: i32 x; 2: i32 y}".as_slice()),
+        ("value", b"\x15\x0A\x15\x01\0".as_slice()),
+        ("file", FILE),
+        ("list", b"struct P {1: list<i32> x}".as_slice()),
+        ("short", b"\x15\x0A\x15\x01".as_slice()),
+        ("open", b"struct P {\n1: i32 x".as_slice()),
+        ("enum", b"enum E {A}".as_slice()),
+    ];
+    let mut files = Vec::new(alloc);
+    for (name, bytes) in held {
+        files.push((String::from_str(alloc, name)?, bytes.to_vec(alloc)?))?;
+    }
+    files.push((String::from_str(alloc, "long")?, filled(alloc, 1_048_577)?))?;
+    Ok(MemFiles::new(files, 2_000_000, vec![in alloc; fail]?))
+}
+
+// Runs the words of a line; out takes at most ten bytes a write.
+fn run_line(alloc: Global, line: &str, faults: Faults) -> Result<Ran, AllocError> {
+    let mut words = Vec::new(alloc);
+    for word in line.split_whitespace() {
+        words.push(String::from_str(alloc, word)?)?;
+    }
+    let mut files = files_of(alloc, faults.read)?;
+    let mut out = MemSink::new(alloc, faults.room, 10, vec![in alloc; faults.write]?)?;
+    let mut err = MemSink::new(alloc, 100, 10, Vec::new(alloc))?;
+    let status = run(alloc, &words, &mut files, &mut out, &mut err);
+    Ok(Ran { status, out, err })
+}
+
+// Each row: the words; the status, out and err.
+#[test]
+fn runs_end_as_they_should(rt: HostRuntime) -> Result<(), Fail> {
+    let rows = [
+        ("freeze def value", 0, FILE, ""),
+        ("get def file .x", 0, b"5\n".as_slice(), ""),
+        ("get def file .y", 0, b"-1\n".as_slice(), ""),
+        ("get def file .z", 2, b"".as_slice(), "path 2 at 0\n"),
+        ("get def file x", 3, b"".as_slice(), "notyet byte 0\n"),
+        ("get gone gone .", 3, b"".as_slice(), "notyet byte 0\n"),
+        ("get def gone .x", 4, b"".as_slice(), "file missing\n"),
+        ("get def value .z", 3, b"".as_slice(), "notyet byte 0\n"),
+        (
+            "freeze gone gone",
+            4,
+            b"".as_slice(),
+            "definition missing\n",
+        ),
+        (
+            "freeze long gone",
+            3,
+            b"".as_slice(),
+            "definition too large\n",
+        ),
+        ("freeze list gone", 3, b"".as_slice(), "notyet line 1\n"),
+        (
+            "freeze open gone",
+            3,
+            b"".as_slice(),
+            "definition 2 line 2\n",
+        ),
+        ("print enum", 3, b"".as_slice(), "definition 13\n"),
+        (
+            "print list",
+            0,
+            b"struct P {\n  1: list<i32> x;\n}\n".as_slice(),
+            "",
+        ),
+        ("freeze def gone", 4, b"".as_slice(), "value missing\n"),
+        ("freeze def short", 3, b"".as_slice(), "notyet byte 0\n"),
+        ("", 2, b"".as_slice(), "usage: frozen COMMAND WORDS\n"),
+        (
+            "get def file",
+            2,
+            b"".as_slice(),
+            "usage: frozen COMMAND WORDS\n",
+        ),
+        (
+            "thaw def file",
+            2,
+            b"".as_slice(),
+            "usage: frozen COMMAND WORDS\n",
+        ),
+    ];
+    for (line, status, out, err) in rows {
+        let ran = run_line(rt.alloc(), line, NO_FAULTS)?;
+        assert_eq!(rt; ran.status, status, "{line}");
+        assert_eq!(rt; ran.out.bytes(), out, "{line}");
+        assert_eq!(rt; ran.err.bytes(), err.as_bytes(), "{line}");
+    }
+    Ok(())
+}
+
+// A run reads each of its two files in two reads, and writes the file of 73 bytes in eight writes.
+#[test]
+fn each_fault_has_its_line(rt: HostRuntime) -> Result<(), Fail> {
+    let alloc = rt.alloc();
+    for (line, second) in [
+        ("freeze def value", "value unreadable\n"),
+        ("get def file .y", "file unreadable\n"),
+    ] {
+        for read in 1..5 {
+            let ran = run_line(alloc, line, Faults { read, ..NO_FAULTS })?;
+            let wanted = if read < 3 {
+                "definition unreadable\n"
+            } else {
+                second
+            };
+            assert_eq!(rt; ran.status, 4, "{line} {read}");
+            assert!(rt; ran.out.bytes().is_empty(), "{line} {read}");
+            assert_eq!(rt; ran.err.bytes(), wanted.as_bytes(), "{line} {read}");
+        }
+    }
+    for write in 1..9 {
+        let ran = run_line(alloc, "freeze def value", Faults { write, ..NO_FAULTS })?;
+        let written = 10 * (write as usize - 1);
+        assert_eq!(rt; ran.status, 5, "{write}");
+        assert!(rt; ran.out.bytes().len() == written, "{write}");
+        assert!(rt; FILE.starts_with(ran.out.bytes()), "{write}");
+        assert_eq!(rt; ran.err.bytes(), b"write failed\n".as_slice(), "{write}");
+    }
+    let ran = run_line(
+        alloc,
+        "freeze def value",
+        Faults {
+            room: 10,
+            ..NO_FAULTS
+        },
+    )?;
+    assert_eq!(rt; ran.status, 5);
+    assert_eq!(rt; ran.out.bytes(), b"FZ2P\x40\0\0\0\x12\x1B".as_slice());
+    assert_eq!(rt; ran.err.bytes(), b"write failed\n".as_slice());
+    Ok(())
+}

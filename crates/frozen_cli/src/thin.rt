@@ -1,0 +1,89 @@
+// The form of a root that is built: from 1 to 60 fields of type i32, numbered from 1, plain and without defaults.
+ghost use Rattle.std.specs.Prelude.{◌≡◌, ◌↔◌, IsTrue};
+ghost use Rattle.idl_profile.specs.Types.{without};
+ghost use Rattle.idl_parse.specs.Parsed.{definition_of};
+ghost use Rattle.idl_parse.specs.Told.{told_field, told_default};
+ghost use Rattle.frozen_cli.specs.Definition.{IsThinField, HasThinRoot};
+
+use crate::layout::MAX_FIELDS;
+use thrift_idl::{DefaultRef, Definition, FieldRef, Need, TypeKind};
+
+/// Whether a field may be there or not, and has a value anyway.
+fn is_plain(need: Need) -> bool
+    ensures { IsTrue result ↔ (need ≡ Need.Plain) }
+{
+    match need {
+        Need::Plain => true,
+        Need::Required => false,
+        Need::Optional => false,
+    }
+}
+
+/// Whether a type is `i32`.
+fn is_i32(kind: TypeKind) -> bool
+    ensures { IsTrue result ↔ (kind ≡ TypeKind.I32) }
+{
+    match kind {
+        TypeKind::I32 => true,
+        TypeKind::Flag => false,
+        TypeKind::I8 => false,
+        TypeKind::I16 => false,
+        TypeKind::I64 => false,
+        TypeKind::Enum => false,
+        TypeKind::Text => false,
+        TypeKind::Bytes => false,
+        TypeKind::List => false,
+        TypeKind::Set => false,
+        TypeKind::Map => false,
+        TypeKind::Struct => false,
+    }
+}
+
+/// Whether no default is written.
+fn is_bare(default: DefaultRef<'_>) -> bool
+    ensures { IsTrue result ↔ (told_default default.entry ≡ without) }
+{
+    match default {
+        DefaultRef::Without => true,
+        DefaultRef::Flag(_) => false,
+        DefaultRef::Int(_) => false,
+        DefaultRef::Text(_) => false,
+        DefaultRef::Empty => false,
+    }
+}
+
+/// Whether a field is of the form that is built and has that id.
+fn is_thin_field(field: FieldRef<'_>, id: u16) -> bool
+    ensures { IsTrue result ↔ IsThinField id (told_field field.entry) }
+{
+    if i32::from(field.id()) != i32::from(id) {
+        return false;
+    }
+    if !is_plain(field.need()) {
+        return false;
+    }
+    if !is_i32(field.ty().kind()) {
+        return false;
+    }
+    is_bare(field.default())
+}
+
+/// Whether the root of a definition is of the form that is built.
+pub fn has_thin_root(def: &Definition) -> bool
+    ensures { IsTrue result ↔ HasThinRoot (definition_of def.now) }
+{
+    let root = def.root();
+    let count = root.field_count();
+    if count == 0 {
+        return false;
+    }
+    if count > MAX_FIELDS as u32 {
+        return false;
+    }
+    for place in 0..count {
+        if !is_thin_field(root.field_at(place), place as u16 + 1) {
+            return false;
+        }
+    }
+    true
+}

@@ -1,2 +1,4 @@
 pub mod DefLaws
 pub mod Rows
+pub mod Sets
+pub mod Had

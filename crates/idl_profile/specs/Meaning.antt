@@ -13,6 +13,7 @@ pub data Ty : Type 0 where
   list : Ty → Ty
   set : Ty → Ty
   map : Ty → Ty → Ty
+  deriving IsSet as Ty-set
 
 pub record Field : Type 0 where
   pub id : ℤ

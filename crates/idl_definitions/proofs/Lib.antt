@@ -2,4 +2,5 @@ pub mod DefinitionSteps
 pub mod MemberSteps
 pub mod SizeLaws
 pub mod Sorting
+pub mod StableSort
 pub mod StructSteps

@@ -1,23 +1,24 @@
--- A field among others by rising id.
-use Rattle.std.proofs.Common.{◌≡◌, ℕ, suc, ◌+◌, Bool, true, false, cond, if◌then◌else◌, List, [], ◌∷◌, ◌++◌, take, drop, refl, ap, arith}
-use Rattle.std.specs.Prelude.{int_lt}
-use Rattle.std.specs.List.{prefix_len}
+-- Fields by rising id, by the code's fields and as they are meant.
+use Rattle.std.proofs.Common.{◌≡◌, ℕ, Bool, true, false, if◌then◌else◌, List, [], ◌∷◌, refl, ap, ◌∙◌}
+use Rattle.std.specs.Prelude.{ℤ, int_lt}
 use Rattle.idl_fields.specs.declared.draft.Field.{Field}
 use Rattle.idl_profile.specs.Meaning as m
-use Rattle.idl_profile.specs.Text.{insert}
+use Rattle.idl_profile.specs.Text.{insert, by_id}
 use Rattle.idl_fields.specs.View.{field_of, fields_of}
+use Rattle.idl_definitions.proofs.StableSort.{insert_by, insertion}
 
-abbrev pub lesser : Field → Field → Bool
-lesser f g = int_lt g.id.id f.id.id
+abbrev pub id_of : Field → ℤ
+id_of f = f.id.id
 
-abbrev pub put : Field → ℕ → List Field → List Field
-put f n xs = take n xs ++ f ∷ drop n xs
+insert-is : (text : List ℕ) (f : Field) (gs : List Field) → fields_of text (insert_by id_of f gs) ≡ insert (field_of text f) (fields_of text gs)
+insert-is text f [] = refl
+insert-is text f (g ∷ gs) = by_test (insert-is text f gs) (int_lt g.id.id f.id.id)
+  where
+    by_test : fields_of text (insert_by id_of f gs) ≡ insert (field_of text f) (fields_of text gs) → (b : Bool)
+        → fields_of text (if b then g ∷ insert_by id_of f gs else f ∷ g ∷ gs) ≡ (if b then field_of text g ∷ insert (field_of text f) (fields_of text gs) else field_of text f ∷ field_of text g ∷ fields_of text gs)
+    by_test e true = ap (λ (z : List m.Field). field_of text g ∷ z) e
+    by_test e false = refl
 
-step : (text : List ℕ) (f g : Field) (xs : List Field) (n : ℕ) (b : Bool) → fields_of text (put f n xs) ≡ insert (field_of text f) (fields_of text xs)
-    → fields_of text (put f (cond b (1 + n) 0) (g ∷ xs)) ≡ (if b then field_of text g ∷ insert (field_of text f) (fields_of text xs) else field_of text f ∷ field_of text g ∷ fields_of text xs)
-step text f g xs n true e = let k : 1 + n ≡ suc n = omega arith in rw k (ap (λ (z : List m.Field). field_of text g ∷ z) e)
-step text f g xs n false e = refl
-
-pub put-is : (text : List ℕ) (f : Field) (xs : List Field) → fields_of text (put f (prefix_len (lesser f) xs) xs) ≡ insert (field_of text f) (fields_of text xs)
-put-is text f [] = refl
-put-is text f (g ∷ xs) = step text f g xs (prefix_len (lesser f) xs) (int_lt g.id.id f.id.id) (put-is text f xs)
+pub insertion-is : (text : List ℕ) (fs : List Field) → fields_of text (insertion id_of fs) ≡ by_id (fields_of text fs)
+insertion-is text [] = refl
+insertion-is text (f ∷ fs) = insert-is text f (insertion id_of fs) ∙ ap (insert (field_of text f)) (insertion-is text fs)

@@ -1,8 +1,7 @@
 //! Adding what was read to what has been defined.
-ghost use Rattle.std.specs.Prelude.{◌≡◌, ◌++◌, ◌∷◌, ◌≤◌, [], ℕ, List, IfOk, IfErr, OnOk, map, length, int_lt};
-ghost use Rattle.std.specs.List.{prefix_len};
+ghost use Rattle.std.specs.Prelude.{◌≡◌, ◌++◌, ◌∷◌, ◌≤◌, [], ℕ, List, IfOk, IfErr, OnOk, map, length};
 ghost use Rattle.idl_tokens.specs.Spans.{bytes_at as bytes_of_span};
-ghost use Rattle.idl_profile.specs.Text.{insert as insert_in, by_id as by_id_of, with_entry, with_enum, with_struct, with_item};
+ghost use Rattle.idl_profile.specs.Text.{by_id as by_id_of, with_entry, with_enum, with_struct, with_item};
 ghost use Rattle.idl_fields.specs.View.{scope_of, alias_of, member_of, field_of, fields_of};
 ghost use Rattle.idl_fields.specs.Indexed.{IsIndexed};
 ghost use Rattle.idl_definitions.specs.Items.{entry, item_of};
@@ -104,38 +103,13 @@ fn add_struct(
     add_entry(alloc, text, scope, name, Expr::Struct(place))
 }
 
-// How many fields have a lesser id, up to the first that has none.
-#[tactic(auto, using(idl_tokens::proofs::Fits::fitting))]
-fn place_of(fields: &[Field], field: &Field) -> usize
-    ensures place { result ≡ prefix_len (λ g. int_lt g.id.id field.now.id.id) fields.now }
-    ensures fits { result ≤ length fields.now }
-{
-    fields
-        .iter()
-        .take_while(|other| other.id.id < field.id.id)
-        .count()
-}
-
-// Puts a field behind those of lesser id.
-fn insert_field(fields: &mut Vec<Field>, field: Field) -> Result<(), ReadError>
-    ensures same { (text : List ℕ) → OnOk result (fields_of text fields.new.items ≡ insert_in (field_of text field) (fields_of text fields.old.items)) }
-    ensures error { IfErr result (λ e. e ≡ ReadError.Memory) }
-{
-    let place = place_of(fields, &field);
-    fields.insert(place, field)?;
-    Ok(())
-}
-
 // The fields by rising id.
-fn by_id(alloc: Global, fields: Vec<Field>) -> Result<Vec<Field>, ReadError>
+fn by_id(mut fields: Vec<Field>) -> Result<Vec<Field>, ReadError>
     ensures same { (text : List ℕ) → IfOk result (λ sorted. fields_of text sorted.items ≡ by_id_of (fields_of text fields.items)) }
     ensures error { IfErr result (λ e. e ≡ ReadError.Memory) }
 {
-    let mut sorted: Vec<Field> = Vec::new(alloc);
-    for field in fields {
-        insert_field(&mut sorted, field)?;
-    }
-    Ok(sorted)
+    fields.sort_by_key(|field| field.id.id)?;
+    Ok(fields)
 }
 
 /// Adds what a definition or a header says.
@@ -151,7 +125,7 @@ pub fn add_item(alloc: Global, text: &[u8], scope: &mut Scope, item: Item) -> Re
         Item::Choice(choice) => add_choice(alloc, text, scope, choice),
         Item::Structure(parts) => {
             let Parts { name, fields } = parts;
-            let fields = by_id(alloc, fields)?;
+            let fields = by_id(fields)?;
             add_struct(alloc, text, scope, name, fields)
         }
     }

@@ -17,7 +17,7 @@ use Rattle.idl_print.proofs.TokensFit.{TokFits, Fits, left-fits, turns-keep, one
 use Rattle.idl_print.proofs.Meant as meant
 use Rattle.idl_print.proofs.Meant.{passed-test, held-test, ok-same, EntriesFit, type-fits}
 use Rattle.idl_print.proofs.MeantFields.{EnumsFit, FieldsFit, fields-fit}
-use Rattle.idl_print.proofs.Rising.{each-placed, distinct-placed, rising-placed, by_id-rising, same-measures}
+use Rattle.idl_print.proofs.Rising.{each-by_id, distinct-by_id, rising-by_id, by_id-rising, same-measures}
 
 -- ---- structs
 
@@ -25,16 +25,12 @@ ids-apart : (fs : List m.Field) → Distinct FieldsApart fs → Distinct (λ f g
 ids-apart [] d = tt
 ids-apart (f ∷ fs) d = (each-map (FieldsApart f) (λ g. f.id ≢ g.id) fs (λ g a. a.0) d.0, ids-apart fs d.1)
 
-none-placed : (P : m.Field → Type 0) (fs : List m.Field) → ((f : m.Field) → P f) → Each P fs
-none-placed P [] h = tt
-none-placed P (f ∷ fs) h = (h f, none-placed P fs h)
-
 struct-named : (ns : List m.Named) (w : List ℕ) (fs : List m.Field) → IsName w → FieldsFit ns fs → measured_struct ns fs ≡ Ok yes → NamedFits ns (m.struct_of w (by_id fs))
 struct-named ns w fs n h e = (
   n,
-  each-placed (FieldFits ns) [] fs tt h.0,
-  distinct-placed FieldsApart (λ f g a. ((λ is. a.0 (sym is)), (λ is. a.1 (sym is)))) [] fs tt h.1 (none-placed (λ f. Unit {0}) fs (λ f. tt)),
-  by_id-rising (by_id fs) (rising-placed [] fs tt (ids-apart fs h.1) (none-placed (λ f. Unit {0}) fs (λ f. tt))),
+  each-by_id (FieldFits ns) fs h.0,
+  distinct-by_id FieldsApart (λ f g a. ((λ is. a.0 (sym is)), (λ is. a.1 (sym is)))) fs h.1,
+  by_id-rising (by_id fs) (rising-by_id fs (ids-apart fs h.1)),
   sym (same-measures ns fs) ∙ e,
 )
 

@@ -116,14 +116,10 @@ abbrev pub insert : m.Field → List m.Field → List m.Field
 insert f [] = f ∷ []
 insert f (g ∷ gs) = if int_lt g.id f.id then g ∷ insert f gs else f ∷ g ∷ gs
 
--- these, and then each of the others at its place by rising id
-abbrev pub placed_by_id : List m.Field → List m.Field → List m.Field
-placed_by_id gs [] = gs
-placed_by_id gs (f ∷ fs) = placed_by_id (insert f gs) fs
-
 -- the fields by rising id
 abbrev pub by_id : List m.Field → List m.Field
-by_id fs = placed_by_id [] fs
+by_id [] = []
+by_id (f ∷ fs) = insert f (by_id fs)
 
 -- what begins with struct
 abbrev pub with_struct : m.Scope → List ℕ → List m.Field → m.Scope

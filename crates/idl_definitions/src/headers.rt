@@ -9,10 +9,10 @@ ghost use Rattle.idl_profile.specs.Text.{namespace, cpp_include, typedef_parts, 
 ghost use Rattle.idl_fields.specs.View.{entries_of, alias_of};
 ghost use Rattle.idl_fields.specs.Indexed.{IsIndexed};
 
-use crate::structs::read_type_name;
 use idl_fields::draft::{Alias, Whole};
 use idl_fields::{
-    Scope, has_backslash, is_mark, none_left, read_end, read_mark, read_sep, read_type, wrong,
+    Scope, has_backslash, is_mark, none_left, read_end, read_mark, read_new_name, read_sep,
+    read_type, wrong,
 };
 use idl_grammar::{Fault, ReadError};
 use idl_tokens::{Placed, Span, Token, bytes_at};
@@ -75,7 +75,7 @@ pub fn read_typedef<'a>(
     ensures { Gives (λ x. (alias_of text.now x.0, toks text.now x.1.now)) result (run (typedef_parts (entries_of text.now scope.now.entries.items)) (toks text.now tokens.now)) }
 {
     let (ty, rest) = read_type(alloc, text, scope, 32, false, tokens)?;
-    let (name, rest) = read_type_name(text, scope, rest)?;
+    let (name, rest) = read_new_name(text, &scope.names, rest)?;
     let rest = read_end(text, rest)?;
     Ok((Alias { name, ty }, rest))
 }

@@ -6,37 +6,20 @@ ghost use Rattle.idl_fields.specs.declared.draft.Member.{Member};
 ghost use Rattle.idl_tokens.specs.Spans.{toks, tok_of, spot_of, bytes_at as bytes_of_span};
 ghost use Rattle.idl_grammar.specs.Grammar.{first as first_of, loop as loop_of};
 ghost use Rattle.idl_grammar.specs.Run.{run, Gives, outcome};
-ghost use Rattle.idl_profile.specs.Judged.{new_name, a_member, no_members, next_number as next_number_of, is_mark as is_mark_of};
+ghost use Rattle.idl_profile.specs.Judged.{a_member, no_members, next_number as next_number_of, is_mark as is_mark_of};
 ghost use Rattle.idl_profile.specs.Text.{with_member, member, enum_body, enum_parts};
-ghost use Rattle.idl_fields.specs.View.{members_of, member_of, judged_name, turn_name, scope_of};
+ghost use Rattle.idl_fields.specs.View.{members_of, member_of, turn_name, scope_of};
 ghost use Rattle.idl_fields.specs.Indexed.{IsIndexed};
 ghost use Rattle.idl_definitions.specs.Items.{choice_of};
 
 use crate::headers::read_own_number;
 use crate::items::Choice;
-use crate::structs::read_type_name;
 use idl_fields::draft::{Member, Whole};
-use idl_fields::{Scope, is_mark, is_name, none_left, read_end, read_mark, wrong};
+use idl_fields::{Scope, is_mark, new_name, none_left, read_end, read_mark, read_new_name, wrong};
 use idl_grammar::{Fault, ReadError};
-use idl_tokens::{Placed, Span, Token, bytes_at};
+use idl_tokens::{Placed, Span, bytes_at};
 use name_index::NameIndex;
 use std::alloc::Global;
-
-fn member_name(text: &[u8], names: &NameIndex, token: Token) -> Result<Span, Fault>
-    ensures { (stood : List (List ℕ)) → Indexes names.now stood → judged_name text.now result ≡ new_name stood (tok_of text.now token) }
-{
-    let Token::Word(w) = token else {
-        return Err(Fault::Syntax);
-    };
-    let name = bytes_at(text, w);
-    if !is_name(name) {
-        Err(Fault::Syntax)
-    } else if names.contains(name) {
-        Err(Fault::RepeatedName)
-    } else {
-        Ok(w)
-    }
-}
 
 fn follows_equals(after: &[Placed]) -> bool
     ensures { (text : List ℕ) → result ≡ is_mark_of 61 (first_of (toks text after.now)) }
@@ -63,7 +46,7 @@ fn member_turn(
     if is_mark(b'@', placed.token) {
         return Err(wrong(Fault::Unsupported, placed));
     }
-    match member_name(text, names, placed.token) {
+    match new_name(text, names, placed.token) {
         Err(fault) => Err(wrong(fault, placed)),
         Ok(name) => {
             if coming.is_some() || follows_equals(after) {
@@ -154,7 +137,7 @@ pub fn read_enum<'a>(
     requires { IsIndexed text.now scope.now }
     ensures { Gives (λ x. (choice_of text.now x.0, toks text.now x.1.now)) result (run (enum_parts (scope_of text.now scope.now)) (toks text.now tokens.now)) }
 {
-    let (name, rest) = read_type_name(text, scope, tokens)?;
+    let (name, rest) = read_new_name(text, &scope.names, tokens)?;
     let (members, rest) = read_enum_body(alloc, text, rest)?;
     let rest = read_end(text, rest)?;
     Ok((Choice { name, members }, rest))

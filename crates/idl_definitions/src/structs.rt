@@ -1,53 +1,23 @@
 //! Structs.
 
 ghost use Rattle.std.specs.Prelude.{◌≡◌, ℕ, List};
-ghost use Rattle.idl_tokens.specs.Spans.{toks, tok_of, bytes_at as bytes_of_span};
+ghost use Rattle.idl_tokens.specs.Spans.{toks, tok_of};
 ghost use Rattle.idl_grammar.specs.Grammar.{token as token_that};
 ghost use Rattle.idl_grammar.specs.Run.{run, Gives};
-ghost use Rattle.idl_profile.specs.Judged.{one_of, new_name, entry_names, a_struct_end};
+ghost use Rattle.idl_profile.specs.Judged.{a_struct_end};
 ghost use Rattle.idl_profile.specs.Text.{struct_parts, struct_body};
-ghost use Rattle.idl_fields.specs.View.{entries_of, fields_of, nameds_of, scope_of, parts_of};
+ghost use Rattle.idl_fields.specs.View.{fields_of, nameds_of, scope_of, parts_of};
 ghost use Rattle.idl_fields.specs.Indexed.{IsIndexed};
 ghost use Rattle.idl_definitions.specs.Sized.{IsSized};
 
 use crate::measure::measured;
 use idl_fields::draft::{Field, Parts};
-use idl_fields::{Scope, is_mark, is_name, none_left, read_end, read_fields, read_mark, wrong};
+use idl_fields::{
+    Scope, is_mark, none_left, read_end, read_fields, read_mark, read_new_name, wrong,
+};
 use idl_grammar::{Fault, ReadError};
-use idl_tokens::{Placed, Span, Token, bytes_at};
+use idl_tokens::{Placed, Token};
 use std::alloc::Global;
-
-/// Whether a type has this name.
-fn type_stood(scope: &Scope, w: &[u8]) -> bool
-    ensures { (text : List ℕ) → IsIndexed text scope.now → result ≡ one_of (entry_names (entries_of text scope.now.entries.items)) w.now }
-{
-    scope.names.contains(w)
-}
-
-/// A new name of a type.
-pub fn read_type_name<'a>(
-    text: &[u8],
-    scope: &Scope,
-    tokens: &'a [Placed],
-) -> Result<(Span, &'a [Placed]), ReadError>
-    requires { IsIndexed text.now scope.now }
-    ensures { Gives (λ x. (bytes_of_span text.now x.0, toks text.now x.1.now)) result (run (token_that (new_name (entry_names (entries_of text.now scope.now.entries.items)))) (toks text.now tokens.now)) }
-{
-    let Some((first, rest)) = tokens.split_first() else {
-        return Err(none_left());
-    };
-    let Token::Word(w) = first.token else {
-        return Err(wrong(Fault::Syntax, first));
-    };
-    let name = bytes_at(text, w);
-    if !is_name(name) {
-        return Err(wrong(Fault::Syntax, first));
-    }
-    if type_stood(scope, name) {
-        return Err(wrong(Fault::RepeatedName, first));
-    }
-    Ok((w, rest))
-}
 
 fn struct_end(text: &[u8], scope: &Scope, fields: &[Field], token: Token) -> Result<(), Fault>
     requires { IsSized text.now scope.now }
@@ -108,7 +78,7 @@ pub fn read_struct<'a>(
     requires indexed { IsIndexed text.now scope.now }
     ensures { Gives (λ x. (parts_of text.now x.0, toks text.now x.1.now)) result (run (struct_parts (scope_of text.now scope.now)) (toks text.now tokens.now)) }
 {
-    let (name, rest) = read_type_name(text, scope, tokens)?;
+    let (name, rest) = read_new_name(text, &scope.names, tokens)?;
     let (fields, rest) = read_struct_body(alloc, text, scope, rest)?;
     let rest = read_end(text, rest)?;
     Ok((Parts { name, fields }, rest))

@@ -5,7 +5,7 @@ ghost use Rattle.idl_tokens.specs.Tokens.{Tok};
 ghost use Rattle.idl_tokens.specs.Spans.{toks, tok_of, spot_of, bytes_at as bytes_of_span};
 ghost use Rattle.idl_grammar.specs.Grammar.{token as token_that, look};
 ghost use Rattle.idl_grammar.specs.Run.{run, Gives, outcome};
-ghost use Rattle.idl_profile.specs.Judged.{new_name, field_names, a_field, an_id, number_default as number_default_of, scalar_number as scalar_number_of, an_int, literal_default as literal_default_of, scalar_literal as scalar_literal_of, scalar_word as scalar_word_of, enum_default as enum_default_of, bracket_default as bracket_default_of, brace_default as brace_default_of, word_default as word_default_of, a_default, a_default_end};
+ghost use Rattle.idl_profile.specs.Judged.{a_field, an_id, number_default as number_default_of, scalar_number as scalar_number_of, an_int, literal_default as literal_default_of, scalar_literal as scalar_literal_of, scalar_word as scalar_word_of, enum_default as enum_default_of, bracket_default as bracket_default_of, brace_default as brace_default_of, word_default as word_default_of, a_default, a_default_end};
 ghost use Rattle.idl_profile.specs.Text.{need_of, default as default_that, field as field_that, typed as typed_that, fields as fields_that};
 ghost use Rattle.idl_fields.specs.View.{type_of, entries_of, fields_of, field_of, nameds_of, default_of, judged_start, start_of as start_view, judged_id, scope_of, typed_of};
 ghost use Rattle.idl_fields.specs.Indexed.{IsIndexed};
@@ -13,11 +13,12 @@ ghost use Rattle.idl_fields.specs.Found.{IsFound};
 
 use crate::draft::{Default, Expr, Field, Id, Named, Start, Typed, Whole};
 use crate::found::Found;
+use crate::names::read_new_name;
 use crate::notes::read_end;
 use crate::reading::{is_mark, is_word, none_left, read_mark, same, wrong};
 use crate::scope::{Scope, enum_default};
 use crate::types::read_type;
-use crate::words::{has_backslash, is_name};
+use crate::words::has_backslash;
 use idl_grammar::{Fault, ReadError};
 use idl_profile::{Need, Scalar};
 use idl_tokens::{Placed, Span, Token, bytes_at};
@@ -36,30 +37,6 @@ fn read_need<'a>(text: &[u8], tokens: &'a [Placed]) -> Result<(Need, &'a [Placed
     } else {
         Ok((Need::Plain, tokens))
     }
-}
-
-fn read_field_name<'a>(
-    text: &[u8],
-    found: &Found,
-    tokens: &'a [Placed],
-) -> Result<(Span, &'a [Placed]), ReadError>
-    requires { IsFound text.now found.now }
-    ensures { Gives (λ x. (bytes_of_span text.now x.0, toks text.now x.1.now)) result (run (token_that (new_name (field_names (fields_of text.now found.now.fields.items)))) (toks text.now tokens.now)) }
-{
-    let Some((first, rest)) = tokens.split_first() else {
-        return Err(none_left());
-    };
-    let Token::Word(w) = first.token else {
-        return Err(wrong(Fault::Syntax, first));
-    };
-    let name = bytes_at(text, w);
-    if !is_name(name) {
-        return Err(wrong(Fault::Syntax, first));
-    }
-    if found.has_name(name) {
-        return Err(wrong(Fault::RepeatedName, first));
-    }
-    Ok((w, rest))
 }
 
 /// The number as an id, or its fault.
@@ -312,7 +289,7 @@ fn read_typed<'a>(
     let rest = read_mark(b':', tokens)?;
     let (need, rest) = read_need(text, rest)?;
     let (ty, rest) = read_type(alloc, text, scope, 32, false, rest)?;
-    let (name, rest) = read_field_name(text, found, rest)?;
+    let (name, rest) = read_new_name(text, &found.names, rest)?;
     Ok((Typed { need, ty, name }, rest))
 }
 

@@ -4,7 +4,7 @@ ghost use Rattle.std.specs.Prelude.{◌≡◌, ◌++◌, ◌∷◌, [], ℕ, ℤ
 ghost use Rattle.std.specs.HashSet.{contains};
 ghost use Rattle.std.specs.Ordering.{int_eq};
 ghost use Rattle.std.specs.List.{list_any};
-ghost use Rattle.idl_profile.specs.Judged.{one_of, ids, field_names};
+ghost use Rattle.idl_profile.specs.Judged.{ids};
 ghost use Rattle.idl_fields.specs.View.{fields_of};
 ghost use Rattle.idl_fields.specs.Found.{IsFound};
 
@@ -28,7 +28,7 @@ fn add_id(ids: &mut HashSet<i64>, id: Id) -> Result<(), ReadError>
 #[derive(Debug, Drop)]
 pub struct Found {
     pub fields: Vec<Field>,
-    names: NameIndex,
+    pub(crate) names: NameIndex,
     ids: HashSet<i64>,
 }
 
@@ -43,13 +43,6 @@ impl Found {
             names: NameIndex::new(alloc),
             ids: HashSet::new(alloc),
         }
-    }
-
-    /// Whether a field has this name.
-    pub fn has_name(&self, name: &[u8]) -> bool
-        ensures { (text : List ℕ) → IsFound text self.now → result ≡ one_of (field_names (fields_of text self.now.fields.items)) name.now }
-    {
-        self.names.contains(name)
     }
 
     /// Whether a field has this id.

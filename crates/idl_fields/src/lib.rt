@@ -4,6 +4,7 @@
 pub mod draft;
 mod fields;
 mod found;
+mod names;
 mod notes;
 mod reading;
 pub mod scope;
@@ -12,9 +13,10 @@ mod types;
 mod words;
 
 pub use fields::read_fields;
+pub use names::{new_name, read_new_name};
 pub use notes::{read_ann, read_end};
 pub use reading::{is_mark, none_left, read_mark, read_sep, same, wrong};
 pub use scope::Scope;
 pub use sizes::Size;
 pub use types::read_type;
-pub use words::{has_backslash, is_name, one_of};
+pub use words::{has_backslash, one_of};

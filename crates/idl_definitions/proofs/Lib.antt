@@ -1,3 +1,4 @@
+pub mod Collecting
 pub mod DefinitionSteps
 pub mod MemberSteps
 pub mod SizeLaws

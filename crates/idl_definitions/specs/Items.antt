@@ -6,6 +6,7 @@ use Rattle.idl_grammar.specs.Grammar.{Turn, enter, wrong}
 use Rattle.idl_definitions.specs.declared.items.Choice.{Choice}
 use Rattle.idl_definitions.specs.declared.items.Item.{Item}
 use Rattle.idl_definitions.specs.declared.items.Item.TheVariants as i
+use Rattle.idl_definitions.specs.declared.members.Members.{Members}
 use Rattle.idl_definitions.specs.declared.items.Begin.{Begin}
 use Rattle.idl_definitions.specs.declared.items.Begin.TheVariants as b
 use Rattle.idl_profile.specs.Judged as j
@@ -14,6 +15,11 @@ use Rattle.idl_tokens.specs.declared.token.Span.{Span}
 use Rattle.idl_fields.specs.declared.draft.Expr.{Expr}
 use Rattle.idl_fields.specs.declared.draft.Entry.{Entry}
 use Rattle.idl_fields.specs.View.{member_of, alias_of, parts_of}
+use Rattle.idl_fields.specs.Indexed.{IndexesMembers}
+
+-- the members so far
+abbrev pub members_of : List ℕ → Members → j.Members
+members_of text ms = record { list = map (member_of text) ms.found.items; coming = option_map (λ w. w.value) ms.coming }
 
 abbrev pub choice_of : List ℕ → Choice → t.Choice
 choice_of text c = t.make_choice (bytes_at text c.name) (map (member_of text) c.members.items)
@@ -23,6 +29,13 @@ item_of text i.Nothing = t.nothing
 item_of text (i.Alias a) = t.alias (alias_of text a)
 item_of text (i.Choice c) = t.choice (choice_of text c)
 item_of text (i.Structure p) = t.structure (parts_of text p)
+
+-- the index of an enum is that of its members
+abbrev pub IsIndexedItem : List ℕ → Item → Type 0
+IsIndexedItem text i.Nothing = Unit {0}
+IsIndexedItem text (i.Alias a) = Unit {0}
+IsIndexedItem text (i.Choice c) = IndexesMembers text c.names c.members.items
+IsIndexedItem text (i.Structure p) = Unit {0}
 
 abbrev pub begin_as : Begin → j.Begin
 begin_as b.Namespace = j.a_namespace

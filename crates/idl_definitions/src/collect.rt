@@ -1,10 +1,12 @@
 //! Adding what was read to what has been defined.
 ghost use Rattle.std.specs.Prelude.{◌≡◌, ◌++◌, ◌∷◌, ◌≤◌, [], ℕ, List, IfOk, IfErr, OnOk, map, length};
 ghost use Rattle.idl_tokens.specs.Spans.{bytes_at as bytes_of_span};
+ghost use Rattle.idl_profile.specs.Measures.{named_tree, trees};
 ghost use Rattle.idl_profile.specs.Text.{by_id as by_id_of, with_entry, with_enum, with_struct, with_item};
-ghost use Rattle.idl_fields.specs.View.{scope_of, alias_of, member_of, field_of, fields_of};
-ghost use Rattle.idl_fields.specs.Indexed.{IsIndexed};
-ghost use Rattle.idl_definitions.specs.Items.{entry, item_of};
+ghost use Rattle.idl_fields.specs.View.{scope_of, alias_of, member_of, named_of, nameds_of, field_of, fields_of};
+ghost use Rattle.idl_fields.specs.Indexed.{IsIndexed, IndexesMembers, IndexesNamed};
+ghost use Rattle.idl_definitions.specs.Items.{entry, item_of, IsIndexedItem};
+ghost use Rattle.idl_definitions.specs.Sizes.{size as size_of};
 ghost use Rattle.idl_definitions.specs.Sized.{IsSized};
 
 use crate::items::{Choice, Item};
@@ -13,6 +15,7 @@ use idl_fields::draft::{Alias, Entry, Expr, Field, Named, Parts};
 use idl_fields::{Scope, Size};
 use idl_grammar::ReadError;
 use idl_tokens::{Span, bytes_at};
+use name_index::NameIndex;
 use std::alloc::Global;
 
 // The number of the next enum or struct. There is no memory for more than 2^32.
@@ -37,7 +40,7 @@ fn add_entry(
 ) -> Result<(), ReadError>
     ensures entries { OnOk result (scope.new.entries.items ≡ scope.old.entries.items ++ entry name ty ∷ []) }
     ensures named { scope.new.named ≡ scope.old.named }
-    ensures sizes { scope.new.sizes ≡ scope.old.sizes }
+    ensures sized { (bytes : List ℕ) → IsSized bytes scope.old → OnOk result (IsSized bytes scope.new) }
     ensures indexed { IsIndexed text.now scope.old → OnOk result (IsIndexed text.now scope.new) }
     ensures error { IfErr result (λ e. e ≡ ReadError.Memory) }
 {
@@ -46,14 +49,16 @@ fn add_entry(
     Ok(())
 }
 
-fn add_named(scope: &mut Scope, named: Named, size: Size) -> Result<(), ReadError>
+// Adds an enum or a struct with the index of its members' names.
+fn add_named(scope: &mut Scope, named: Named, names: NameIndex, size: Size) -> Result<(), ReadError>
     ensures named { OnOk result (scope.new.named.items ≡ scope.old.named.items ++ named ∷ []) }
-    ensures sizes { OnOk result (scope.new.sizes.items ≡ scope.old.sizes.items ++ size ∷ []) }
     ensures entries { scope.new.entries ≡ scope.old.entries }
-    ensures names { scope.new.names ≡ scope.old.names }
+    ensures sized { (text : List ℕ) → IsSized text scope.old → size ≡ size_of (named_tree (trees (nameds_of text scope.old.named.items)) (named_of text named)) → OnOk result (IsSized text scope.new) }
+    ensures indexed { (text : List ℕ) → IsIndexed text scope.old → IndexesNamed names (named_of text named) → OnOk result (IsIndexed text scope.new) }
     ensures error { IfErr result (λ e. e ≡ ReadError.Memory) }
 {
     scope.named.push(named)?;
+    scope.members.push(names)?;
     scope.sizes.push(size)?;
     Ok(())
 }
@@ -76,12 +81,16 @@ fn add_choice(
 ) -> Result<(), ReadError>
     ensures same { (bytes : List ℕ) → OnOk result (scope_of bytes scope.new ≡ with_enum (scope_of bytes scope.old) (bytes_of_span bytes choice.name) (map (member_of bytes) choice.members.items)) }
     ensures sized { (bytes : List ℕ) → IsSized bytes scope.old → OnOk result (IsSized bytes scope.new) }
-    ensures indexed { IsIndexed text.now scope.old → OnOk result (IsIndexed text.now scope.new) }
+    ensures indexed { IsIndexed text.now scope.old → IndexesMembers text.now choice.names choice.members.items → OnOk result (IsIndexed text.now scope.new) }
     ensures error { IfErr result (λ e. e ≡ ReadError.Memory) }
 {
     let place = next_place(&scope.named)?;
-    let Choice { name, members } = choice;
-    add_named(scope, Named::Enum(name, members), enum_size())?;
+    let Choice {
+        name,
+        members,
+        names,
+    } = choice;
+    add_named(scope, Named::Enum(name, members), names, enum_size())?;
     add_entry(alloc, text, scope, name, Expr::Enum(place))
 }
 
@@ -99,7 +108,12 @@ fn add_struct(
 {
     let place = next_place(&scope.named)?;
     let size = size_of_struct(&scope.sizes, &fields);
-    add_named(scope, Named::Struct(name, fields), size)?;
+    add_named(
+        scope,
+        Named::Struct(name, fields),
+        NameIndex::new(alloc),
+        size,
+    )?;
     add_entry(alloc, text, scope, name, Expr::Struct(place))
 }
 
@@ -116,7 +130,7 @@ fn by_id(mut fields: Vec<Field>) -> Result<Vec<Field>, ReadError>
 pub fn add_item(alloc: Global, text: &[u8], scope: &mut Scope, item: Item) -> Result<(), ReadError>
     ensures same { (bytes : List ℕ) → OnOk result (scope_of bytes scope.new ≡ with_item (scope_of bytes scope.old) (item_of bytes item)) }
     ensures sized { (bytes : List ℕ) → IsSized bytes scope.old → OnOk result (IsSized bytes scope.new) }
-    ensures indexed { IsIndexed text.now scope.old → OnOk result (IsIndexed text.now scope.new) }
+    ensures indexed { IsIndexed text.now scope.old → IsIndexedItem text.now item → OnOk result (IsIndexed text.now scope.new) }
     ensures error { IfErr result (λ e. e ≡ ReadError.Memory) }
 {
     match item {

@@ -1,12 +1,14 @@
 //! What a definition or a header adds to what was defined.
 use idl_fields::draft::{Alias, Member, Parts};
 use idl_tokens::Span;
+use name_index::NameIndex;
 
-/// What an enum says.
+/// What an enum says, with the index of its members' names.
 #[derive(Debug, Drop)]
 pub struct Choice {
     pub name: Span,
     pub members: Vec<Member>,
+    pub names: NameIndex,
 }
 
 /// What a definition or a header adds.

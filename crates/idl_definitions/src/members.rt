@@ -1,16 +1,14 @@
 //! Members of enums.
 
-ghost use Rattle.std.specs.Prelude.{◌≡◌, map, List, ℕ, option_map};
-ghost use Rattle.name_index.specs.Names.{Indexes};
-ghost use Rattle.idl_fields.specs.declared.draft.Member.{Member};
+ghost use Rattle.std.specs.Prelude.{◌≡◌, map, List, ℕ, option_map, IfOk, IfErr, OnOk};
 ghost use Rattle.idl_tokens.specs.Spans.{toks, tok_of, spot_of, bytes_at as bytes_of_span};
 ghost use Rattle.idl_grammar.specs.Grammar.{first as first_of, loop as loop_of};
 ghost use Rattle.idl_grammar.specs.Run.{run, Gives, outcome};
 ghost use Rattle.idl_profile.specs.Judged.{a_member, no_members, next_number as next_number_of, is_mark as is_mark_of};
 ghost use Rattle.idl_profile.specs.Text.{with_member, member, enum_body, enum_parts};
-ghost use Rattle.idl_fields.specs.View.{members_of, member_of, turn_name, scope_of};
-ghost use Rattle.idl_fields.specs.Indexed.{IsIndexed};
-ghost use Rattle.idl_definitions.specs.Items.{choice_of};
+ghost use Rattle.idl_fields.specs.View.{member_of, turn_name, scope_of};
+ghost use Rattle.idl_fields.specs.Indexed.{IsIndexed, IndexesMembers};
+ghost use Rattle.idl_definitions.specs.Items.{members_of, choice_of};
 
 use crate::headers::read_own_number;
 use crate::items::Choice;
@@ -20,6 +18,40 @@ use idl_grammar::{Fault, ReadError};
 use idl_tokens::{Placed, Span, bytes_at};
 use name_index::NameIndex;
 use std::alloc::Global;
+
+/// The members so far, the index of their names, and the number that counting gives the next one, if it is an i32.
+#[derive(Debug, Drop)]
+pub struct Members {
+    found: Vec<Member>,
+    names: NameIndex,
+    coming: Option<Whole>,
+}
+
+impl Members {
+    /// No members; the first one counts from 0.
+    fn new(alloc: Global) -> Self
+        ensures none { (text : List ℕ) → members_of text result ≡ no_members }
+        ensures indexed { (text : List ℕ) → IndexesMembers text result.names result.found.items }
+    {
+        Members {
+            found: Vec::new(alloc),
+            names: NameIndex::new(alloc),
+            coming: Some(Whole { value: 0 }),
+        }
+    }
+
+    /// Adds a member at the end.
+    fn add(&mut self, alloc: Global, text: &[u8], member: Member) -> Result<(), ReadError>
+        ensures same { OnOk result (members_of text.now self.new ≡ with_member (members_of text.now self.old) (bytes_of_span text.now member.name) member.number.value) }
+        ensures indexed { IndexesMembers text.now self.old.names self.old.found.items → OnOk result (IndexesMembers text.now self.new.names self.new.found.items) }
+        ensures error { IfErr result (λ e. e ≡ ReadError.Memory) }
+    {
+        self.names.push(alloc, bytes_at(text, member.name))?;
+        self.coming = next_number(member.number);
+        self.found.push(member)?;
+        Ok(())
+    }
+}
 
 fn follows_equals(after: &[Placed]) -> bool
     ensures { (text : List ℕ) → result ≡ is_mark_of 61 (first_of (toks text after.now)) }
@@ -33,12 +65,12 @@ fn follows_equals(after: &[Placed]) -> bool
 /// Whether another member begins here; the tokens after it are only looked at.
 fn member_turn(
     text: &[u8],
-    names: &NameIndex,
-    coming: Option<Whole>,
+    members: &Members,
     placed: &Placed,
     after: &[Placed],
 ) -> Result<Option<Span>, ReadError>
-    ensures { (members : List Member) → Indexes names.now (map (λ x. x.name) (map (member_of text.now) members)) → Gives (turn_name text.now) result (outcome (a_member (members_of text.now members coming) (tok_of text.now placed.now.token) (first_of (toks text.now after.now))) (spot_of text.now placed.now)) }
+    requires { IndexesMembers text.now members.now.names members.now.found.items }
+    ensures { Gives (turn_name text.now) result (outcome (a_member (members_of text.now members.now) (tok_of text.now placed.now.token) (first_of (toks text.now after.now))) (spot_of text.now placed.now)) }
 {
     if is_mark(b'}', placed.token) {
         return Ok(None);
@@ -46,10 +78,10 @@ fn member_turn(
     if is_mark(b'@', placed.token) {
         return Err(wrong(Fault::Unsupported, placed));
     }
-    match new_name(text, names, placed.token) {
+    match new_name(text, &members.names, placed.token) {
         Err(fault) => Err(wrong(fault, placed)),
         Ok(name) => {
-            if coming.is_some() || follows_equals(after) {
+            if members.coming.is_some() || follows_equals(after) {
                 Ok(Some(name))
             } else {
                 Err(wrong(Fault::BadDefault, placed))
@@ -72,41 +104,37 @@ fn next_number(z: Whole) -> Option<Whole>
 // A member after its name: its number.
 fn read_member<'a>(
     text: &[u8],
-    members: &[Member],
-    coming: Option<Whole>,
+    members: &Members,
     name: Span,
     tokens: &'a [Placed],
 ) -> Result<(Whole, &'a [Placed]), ReadError>
-    ensures { Gives (λ x. (with_member (members_of text.now members.now coming) (bytes_of_span text.now name) x.0.value, toks text.now x.1.now)) result (run (member (members_of text.now members.now coming) (bytes_of_span text.now name)) (toks text.now tokens.now)) }
+    ensures { Gives (λ x. (with_member (members_of text.now members.now) (bytes_of_span text.now name) x.0.value, toks text.now x.1.now)) result (run (member (members_of text.now members.now) (bytes_of_span text.now name)) (toks text.now tokens.now)) }
 {
-    let (number, rest) = read_own_number(coming, tokens)?;
+    let (number, rest) = read_own_number(members.coming, tokens)?;
     let rest = read_end(text, rest)?;
     Ok((number, rest))
 }
 
-// The members of an enum, with the number that comes next.
+// The members of an enum.
 fn read_members<'a>(
     alloc: Global,
     text: &[u8],
     tokens: &'a [Placed],
-) -> Result<(Vec<Member>, Option<Whole>, &'a [Placed]), ReadError>
-    ensures { Gives (λ x. (members_of text.now x.0.items x.1, toks text.now x.2.now)) result (run (loop_of a_member member no_members) (toks text.now tokens.now)) }
+) -> Result<(Members, &'a [Placed]), ReadError>
+    ensures reads { Gives (λ x. (members_of text.now x.0, toks text.now x.1.now)) result (run (loop_of a_member member no_members) (toks text.now tokens.now)) }
+    ensures indexed { IfOk result (λ x. IndexesMembers text.now x.0.names x.0.found.items) }
 {
-    let mut found: Vec<Member> = Vec::new(alloc);
-    let mut names = NameIndex::new(alloc);
-    let mut coming = Some(Whole { value: 0 });
+    let mut members = Members::new(alloc);
     let mut rest = tokens;
     'members: loop {
         let Some((first, after)) = rest.split_first() else {
             return Err(none_left());
         };
-        let Some(name) = member_turn(text, &names, coming, first, after)? else {
-            return Ok((found, coming, rest));
+        let Some(name) = member_turn(text, &members, first, after)? else {
+            return Ok((members, rest));
         };
-        let (number, after) = read_member(text, &found, coming, name, after)?;
-        names.push(alloc, bytes_at(text, name))?;
-        found.push(Member { name, number })?;
-        coming = next_number(number);
+        let (number, after) = read_member(text, &members, name, after)?;
+        members.add(alloc, text, Member { name, number })?;
         rest = after;
     }
 }
@@ -117,11 +145,12 @@ fn read_enum_body<'a>(
     alloc: Global,
     text: &[u8],
     tokens: &'a [Placed],
-) -> Result<(Vec<Member>, &'a [Placed]), ReadError>
-    ensures { Gives (λ x. (map (member_of text.now) x.0.items, toks text.now x.1.now)) result (run enum_body (toks text.now tokens.now)) }
+) -> Result<(Members, &'a [Placed]), ReadError>
+    ensures reads { Gives (λ x. (map (member_of text.now) x.0.found.items, toks text.now x.1.now)) result (run enum_body (toks text.now tokens.now)) }
+    ensures indexed { IfOk result (λ x. IndexesMembers text.now x.0.names x.0.found.items) }
 {
     let rest = read_mark(b'{', tokens)?;
-    let (members, _, rest) = read_members(alloc, text, rest)?;
+    let (members, rest) = read_members(alloc, text, rest)?;
     let rest = read_mark(b'}', rest)?;
     Ok((members, rest))
 }
@@ -135,10 +164,19 @@ pub fn read_enum<'a>(
     tokens: &'a [Placed],
 ) -> Result<(Choice, &'a [Placed]), ReadError>
     requires { IsIndexed text.now scope.now }
-    ensures { Gives (λ x. (choice_of text.now x.0, toks text.now x.1.now)) result (run (enum_parts (scope_of text.now scope.now)) (toks text.now tokens.now)) }
+    ensures reads { Gives (λ x. (choice_of text.now x.0, toks text.now x.1.now)) result (run (enum_parts (scope_of text.now scope.now)) (toks text.now tokens.now)) }
+    ensures indexed { IfOk result (λ x. IndexesMembers text.now x.0.names x.0.members.items) }
 {
     let (name, rest) = read_new_name(text, &scope.names, tokens)?;
     let (members, rest) = read_enum_body(alloc, text, rest)?;
     let rest = read_end(text, rest)?;
-    Ok((Choice { name, members }, rest))
+    let Members { found, names, .. } = members;
+    Ok((
+        Choice {
+            name,
+            members: found,
+            names,
+        },
+        rest,
+    ))
 }

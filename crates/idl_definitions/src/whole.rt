@@ -1,5 +1,5 @@
 //! Reading a whole text.
-ghost use Rattle.std.specs.Prelude.{◌≡◌, ℕ, List};
+ghost use Rattle.std.specs.Prelude.{◌≡◌, ℕ, List, IfOk};
 ghost use Rattle.idl_tokens.specs.Spans.{toks, tok_of, spot_of};
 ghost use Rattle.idl_tokens.specs.Tokens.{Tok};
 ghost use Rattle.idl_grammar.specs.Run.{run, Gives, outcome};
@@ -8,7 +8,7 @@ ghost use Rattle.idl_profile.specs.Meaning.{Scope as Defined};
 ghost use Rattle.idl_profile.specs.Text.{item as item_that, whole};
 ghost use Rattle.idl_fields.specs.View.{scope_of};
 ghost use Rattle.idl_fields.specs.Indexed.{IsIndexed};
-ghost use Rattle.idl_definitions.specs.Items.{item_of, begin_as, turn_of, begins};
+ghost use Rattle.idl_definitions.specs.Items.{item_of, begin_as, turn_of, begins, IsIndexedItem};
 ghost use Rattle.idl_definitions.specs.Sized.{IsSized};
 
 use crate::collect::add_item;
@@ -82,7 +82,8 @@ fn read_item<'a>(
 ) -> Result<(Item, &'a [Placed]), ReadError>
     requires sized { IsSized text.now scope.now }
     requires indexed { IsIndexed text.now scope.now }
-    ensures { Gives (λ x. (item_of text.now x.0, toks text.now x.1.now)) result (run (item_that (scope_of text.now scope.now) (begin_as begin)) (toks text.now tokens.now)) }
+    ensures reads { Gives (λ x. (item_of text.now x.0, toks text.now x.1.now)) result (run (item_that (scope_of text.now scope.now) (begin_as begin)) (toks text.now tokens.now)) }
+    ensures indexed { IfOk result (λ x. IsIndexedItem text.now x.0) }
 {
     match begin {
         Begin::Namespace => {
@@ -120,6 +121,7 @@ pub fn read_definitions<'a>(
         entries: Vec::new(alloc),
         names: NameIndex::new(alloc),
         named: Vec::new(alloc),
+        members: Vec::new(alloc),
         sizes: Vec::new(alloc),
     };
     let mut rest = tokens;

@@ -1,6 +1,6 @@
 -- The entry at the first place of a name.
-use Rattle.std.proofs.Common.{◌≡◌, ℕ, suc, ◌+◌, Bool, true, false, cond, List, [], ◌∷◌, length, ◌≤◌, refl, sym, ap, ◌∙◌, arith}
-use Rattle.std.specs.Prelude.{Option, Some, None, option_map, slice_get, nat_lt}
+use Rattle.std.proofs.Common.{◌≡◌, ℕ, suc, cond, List, [], ◌∷◌, length, ◌≤◌, refl, sym, ap, ◌∙◌, arith}
+use Rattle.std.specs.Prelude.{Some, None, option_map, slice_get, nat_lt}
 use Rattle.std.specs.List.{position_or_len}
 use Rattle.std.specs.Str.{bytes_eq}
 use Rattle.std.proofs.lemmas.Bool.Decides.{nat_tests}
@@ -23,10 +23,10 @@ pub at-place : (text w : List ℕ) (es : List Entry) → m.find w (entries_of te
 at-place text w [] = grind (arith, common_steps)
 at-place text w (e ∷ es) = let h = at-place text w es in grind (arith, common_steps, nat_tests)
 
-past : (n l : ℕ) → cond (nat_lt n l) (Some n) None ≡ None → l ≤ n
+pub past : (n l : ℕ) → cond (nat_lt n l) (Some n) None ≡ None → l ≤ n
 past n l e = grind (arith, nat_tests)
 
-within : (n l i : ℕ) → cond (nat_lt n l) (Some n) None ≡ Some i → n ≡ i
+pub within : (n l i : ℕ) → cond (nat_lt n l) (Some n) None ≡ Some i → n ≡ i
 within n l i e = grind (arith, nat_tests)
 
 pub no-place : (text w : List ℕ) (es : List Entry) → first_place (entry_names (entries_of text es)) w ≡ None → None ≡ m.find w (entries_of text es)

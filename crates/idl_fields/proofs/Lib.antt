@@ -1,4 +1,5 @@
-pub mod Dotted
+pub mod Enums
 pub mod FieldSteps
 pub mod Finding
 pub mod FoundSteps
+pub mod MemberPlaces

@@ -11,7 +11,6 @@ use Rattle.idl_fields.specs.declared.scope.Scope.{Scope}
 use Rattle.idl_fields.specs.declared.draft.Typed.{Typed}
 use Rattle.idl_fields.specs.declared.draft.Parts.{Parts}
 use Rattle.idl_fields.specs.declared.draft.Alias.{Alias}
-use Rattle.idl_fields.specs.declared.draft.Whole.{Whole}
 use Rattle.idl_tokens.specs.declared.token.Span.{Span}
 use Rattle.idl_fields.specs.declared.draft.Member.{Member}
 use Rattle.idl_fields.specs.declared.draft.Named.{Named}
@@ -100,9 +99,6 @@ parts_of text p = record { name = bytes_at text p.name; fields = fields_of text 
 
 abbrev pub alias_of : List ℕ → Alias → m.Entry
 alias_of text a = record { name = bytes_at text a.name; type = type_of a.ty }
-
-abbrev pub members_of : List ℕ → List Member → Option Whole → j.Members
-members_of text xs z = record { list = map_list (member_of text) xs; coming = option_map (λ w. w.value) z }
 
 abbrev pub judged_name : List ℕ → Result Span Fault → Result (List ℕ) Fault
 judged_name text (Ok s) = Ok (bytes_at text s)

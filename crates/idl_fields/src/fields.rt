@@ -11,7 +11,7 @@ ghost use Rattle.idl_fields.specs.View.{type_of, entries_of, fields_of, field_of
 ghost use Rattle.idl_fields.specs.Indexed.{IsIndexed};
 ghost use Rattle.idl_fields.specs.Found.{IsFound};
 
-use crate::draft::{Default, Expr, Field, Id, Named, Start, Typed, Whole};
+use crate::draft::{Default, Expr, Field, Id, Start, Typed, Whole};
 use crate::found::Found;
 use crate::names::read_new_name;
 use crate::notes::read_end;
@@ -173,19 +173,21 @@ fn scalar_word(s: Scalar, w: &[u8]) -> Result<Start, Fault>
     }
 }
 
-fn word_default(text: &[u8], named: &[Named], ty: &Expr, w: &[u8]) -> Result<Start, Fault>
-    ensures { judged_start text.now result ≡ word_default_of (nameds_of text.now named.now) (type_of ty.now) w.now }
+fn word_default(text: &[u8], scope: &Scope, ty: &Expr, w: &[u8]) -> Result<Start, Fault>
+    requires { IsIndexed text.now scope.now }
+    ensures { judged_start text.now result ≡ word_default_of (nameds_of text.now scope.now.named.items) (type_of ty.now) w.now }
 {
     match ty {
         Expr::Scalar(s) => scalar_word(*s, w),
-        Expr::Enum(n) => enum_default(text, named, *n, w),
+        Expr::Enum(n) => enum_default(text, scope, *n, w),
         Expr::Struct(_) | Expr::List(_) | Expr::Set(_) | Expr::Map(_, _) => Err(Fault::BadDefault),
     }
 }
 
 /// What a token means where a default begins, or its fault.
-fn start_of(text: &[u8], named: &[Named], ty: &Expr, token: Token) -> Result<Start, Fault>
-    ensures { judged_start text.now result ≡ a_default (nameds_of text.now named.now) (type_of ty.now) (tok_of text.now token) }
+fn start_of(text: &[u8], scope: &Scope, ty: &Expr, token: Token) -> Result<Start, Fault>
+    requires { IsIndexed text.now scope.now }
+    ensures { judged_start text.now result ≡ a_default (nameds_of text.now scope.now.named.items) (type_of ty.now) (tok_of text.now token) }
 {
     match token {
         Token::Number(Some(value)) => number_default(ty, Whole { value }),
@@ -197,7 +199,7 @@ fn start_of(text: &[u8], named: &[Named], ty: &Expr, token: Token) -> Result<Sta
                 literal_default(ty, x)
             }
         }
-        Token::Word(w) => word_default(text, named, ty, bytes_at(text, w)),
+        Token::Word(w) => word_default(text, scope, ty, bytes_at(text, w)),
         Token::Mark(b'[') => bracket_default(ty),
         Token::Mark(b'{') => brace_default(ty),
         Token::Mark(_) | Token::Finish | Token::Bad => Err(Fault::Syntax),
@@ -234,16 +236,17 @@ fn read_default_end<'a>(
 
 fn read_start<'a>(
     text: &[u8],
-    named: &[Named],
+    scope: &Scope,
     ty: &Expr,
     tokens: &'a [Placed],
 ) -> Result<(Start, &'a [Placed]), ReadError>
-    ensures { Gives (λ x. (start_view text.now x.0, toks text.now x.1.now)) result (run (token_that (a_default (nameds_of text.now named.now) (type_of ty.now))) (toks text.now tokens.now)) }
+    requires { IsIndexed text.now scope.now }
+    ensures { Gives (λ x. (start_view text.now x.0, toks text.now x.1.now)) result (run (token_that (a_default (nameds_of text.now scope.now.named.items) (type_of ty.now))) (toks text.now tokens.now)) }
 {
     let Some((first, rest)) = tokens.split_first() else {
         return Err(none_left());
     };
-    match start_of(text, named, ty, first.token) {
+    match start_of(text, scope, ty, first.token) {
         Ok(start) => Ok((start, rest)),
         Err(fault) => Err(wrong(fault, first)),
     }
@@ -251,11 +254,12 @@ fn read_start<'a>(
 
 fn read_default<'a>(
     text: &[u8],
-    named: &[Named],
+    scope: &Scope,
     ty: &Expr,
     tokens: &'a [Placed],
 ) -> Result<(Default, &'a [Placed]), ReadError>
-    ensures { Gives (λ x. (default_of text.now x.0, toks text.now x.1.now)) result (run (default_that (nameds_of text.now named.now) (type_of ty.now)) (toks text.now tokens.now)) }
+    requires { IsIndexed text.now scope.now }
+    ensures { Gives (λ x. (default_of text.now x.0, toks text.now x.1.now)) result (run (default_that (nameds_of text.now scope.now.named.items) (type_of ty.now)) (toks text.now tokens.now)) }
 {
     let Some((first, rest)) = tokens.split_first() else {
         return Err(none_left());
@@ -263,7 +267,7 @@ fn read_default<'a>(
     if !is_mark(b'=', first.token) {
         return Ok((Default::Without, tokens));
     }
-    let (start, rest) = read_start(text, named, ty, rest)?;
+    let (start, rest) = read_start(text, scope, ty, rest)?;
     match start {
         Start::Complete(default) => Ok((default, rest)),
         Start::ClosedBy(mark) => {
@@ -308,7 +312,7 @@ fn read_field<'a>(
     ensures { Gives (λ x. (field_of text.now x.0, toks text.now x.1.now)) result (run (field_that (scope_of text.now scope.now) (fields_of text.now found.now.fields.items) id.id) (toks text.now tokens.now)) }
 {
     let (typed, rest) = read_typed(alloc, text, scope, found, tokens)?;
-    let (default, rest) = read_default(text, &scope.named, &typed.ty, rest)?;
+    let (default, rest) = read_default(text, scope, &typed.ty, rest)?;
     let rest = read_end(text, rest)?;
     let Typed { need, ty, name } = typed;
     Ok((

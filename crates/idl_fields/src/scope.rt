@@ -1,13 +1,15 @@
 //! What has been defined.
 
-ghost use Rattle.std.specs.Prelude.{◌≡◌, ◌++◌, ◌||◌, ◌∷◌, List, ℕ, map};
+ghost use Rattle.std.specs.Prelude.{◌≡◌, ◌≢◌, ◌++◌, ◌||◌, ◌∷◌, List, ℕ, map, MatchOption};
+ghost use Rattle.std.specs.List.{position};
 ghost use Rattle.std.specs.Str.{bytes_eq};
+ghost use Rattle.name_index.specs.Names.{Indexes};
 ghost use Rattle.idl_tokens.specs.Spans.{bytes_at as bytes_of_span};
 ghost use Rattle.idl_profile.specs.Judged.{enum_default as enum_default_of, member_number};
 ghost use Rattle.idl_fields.specs.View.{nameds_of, judged_start, member_of};
+ghost use Rattle.idl_fields.specs.Indexed.{IsIndexed, IndexesMembers};
 
 use crate::draft::{Default, Entry, Member, Named, Start};
-use crate::reading::same;
 use crate::sizes::Size;
 use idl_grammar::Fault;
 use idl_tokens::{Span, bytes_at};
@@ -19,55 +21,64 @@ pub struct Scope {
     pub entries: Vec<Entry>,
     pub names: NameIndex,
     pub named: Vec<Named>,
+    /// The names of the members of each enum; of a struct there are none.
+    pub members: Vec<NameIndex>,
     pub sizes: Vec<Size>,
 }
 
-/// Whether the bytes are the two names with a dot between them.
-fn is_dotted(a: &[u8], b: &[u8], w: &[u8]) -> bool
-    ensures { result ≡ bytes_eq (a.now ++ 46 ∷ b.now) w.now }
+/// What a word has behind the name and a dot.
+fn after_dot<'a>(name: &[u8], w: &'a [u8]) -> Option<&'a [u8]>
+    ensures { MatchOption result ((rest : List ℕ) → w.now ≢ name.now ++ 46 ∷ rest) (λ rest. w.now ≡ name.now ++ 46 ∷ rest.now) }
 {
-    if w.len() <= a.len() {
-        return false;
-    }
-    let (front, rest) = w.split_at(a.len());
-    let Some((first, rest)) = rest.split_first() else {
-        return false;
-    };
-    if !same(a, front) {
-        return false;
-    }
-    if *first != b'.' {
-        return false;
-    }
-    same(b, rest)
+    w.strip_prefix(name)?.strip_prefix(b".")
 }
 
-fn member_default(text: &[u8], name: Span, members: &[Member], w: &[u8]) -> Result<Start, Fault>
+/// The place of the first name that the word has behind the enum's name and a dot.
+fn dotted_place(names: &NameIndex, name: &[u8], w: &[u8]) -> Option<u32>
+    ensures { (stood : List (List ℕ)) → Indexes names.now stood → result ≡ position (λ n. bytes_eq (name.now ++ 46 ∷ n) w.now) stood }
+{
+    names.place_of(after_dot(name, w)?)
+}
+
+/// The place of the first name that is the word, alone or behind the enum's name and a dot.
+fn member_place(names: &NameIndex, name: &[u8], w: &[u8]) -> Option<u32>
+    ensures { (stood : List (List ℕ)) → Indexes names.now stood → result ≡ position (λ n. bytes_eq n w.now || bytes_eq (name.now ++ 46 ∷ n) w.now) stood }
+{
+    match (names.place_of(w), dotted_place(names, name, w)) {
+        (Some(alone), Some(dotted)) => Some(alone.min(dotted)),
+        (Some(alone), None) => Some(alone),
+        (None, dotted) => dotted,
+    }
+}
+
+/// The number of the first member that the word means.
+fn member_default(
+    text: &[u8],
+    name: Span,
+    members: &[Member],
+    names: &NameIndex,
+    w: &[u8],
+) -> Result<Start, Fault>
+    requires { IndexesMembers text.now names.now members.now }
     ensures { judged_start text.now result ≡ member_number (bytes_of_span text.now name) (map (member_of text.now) members.now) w.now }
 {
-    for member in members {
-        if is_member(text, name, *member, w) {
-            return Ok(Start::Complete(Default::Int(member.number)));
-        }
-    }
-    Err(Fault::BadDefault)
-}
-
-/// Whether a word is this member, with or without the enum's name.
-fn is_member(text: &[u8], name: Span, member: Member, w: &[u8]) -> bool
-    ensures { result ≡ (bytes_eq (bytes_of_span text.now member.name) w.now || bytes_eq (bytes_of_span text.now name ++ 46 ∷ bytes_of_span text.now member.name) w.now) }
-{
-    let own = bytes_at(text, member.name);
-    same(own, w) || is_dotted(bytes_at(text, name), own, w)
+    let Some(place) = member_place(names, bytes_at(text, name), w) else {
+        return Err(Fault::BadDefault);
+    };
+    let Some(member) = members.get(place as usize) else {
+        return Err(Fault::BadDefault);
+    };
+    Ok(Start::Complete(Default::Int(member.number)))
 }
 
 /// The number of a member of this enum, written with or without the enum's name.
-pub fn enum_default(text: &[u8], named: &[Named], n: u32, w: &[u8]) -> Result<Start, Fault>
-    ensures { judged_start text.now result ≡ enum_default_of (nameds_of text.now named.now) n w.now }
+pub fn enum_default(text: &[u8], scope: &Scope, n: u32, w: &[u8]) -> Result<Start, Fault>
+    requires { IsIndexed text.now scope.now }
+    ensures { judged_start text.now result ≡ enum_default_of (nameds_of text.now scope.now.named.items) n w.now }
 {
-    match named.get(n as usize) {
-        Some(Named::Enum(name, members)) => member_default(text, *name, members, w),
-        Some(Named::Struct(_, _)) => Err(Fault::BadDefault),
-        None => Err(Fault::BadDefault),
-    }
+    let Some(Named::Enum(name, members)) = scope.named.get(n as usize) else {
+        return Err(Fault::BadDefault);
+    };
+    let names = &scope.members[n as usize];
+    member_default(text, *name, members, names, w)
 }

@@ -89,6 +89,7 @@ fn read_text(alloc: Global, text: &[u8]) -> Result<Definition, DefFault>
         entries: _,
         names: _,
         named,
+        members: _,
         sizes: _,
     } = scope;
     rooted(alloc, text, named)

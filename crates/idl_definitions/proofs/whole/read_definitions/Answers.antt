@@ -31,7 +31,7 @@ returns-in_err-item c =
     let b = begin_as c.in-Some-2.begin in
     rw (p.1, p.2) (at_breaks a_definition definition c.args.text.now c.definitions.rest.now c.in-Some.first.now c.in-Some.after.now c.in-Some.ensures.cases.0
     s _ c.definitions.invariant.same b (h ∙ ap begin_is c.in-Some-2.is) c.in_err-item.field-0.0
-    (item_breaks s b (toks c.args.text.now c.in-Some.after.now) c.in_err-item.field-0.0 c.in_err-item.ensures))
+    (item_breaks s b (toks c.args.text.now c.in-Some.after.now) c.in_err-item.field-0.0 c.in_err-item.ensures.reads))
 
 pub definitions-preserved : goal.definitions-preserved
 definitions-preserved c =
@@ -41,8 +41,8 @@ definitions-preserved c =
     let i = item_of c.args.text.now c.in_ok-item.item in
     let k = at_more a_definition definition c.args.text.now c.definitions.rest.now c.in-Some.first.now c.in-Some.after.now c.in-Some.ensures.cases.0
     s _ c.definitions.invariant.same b (h ∙ ap begin_is c.in-Some-2.is) (with_item s i) c.in_ok-item.after.now
-    (item_ok s b (toks c.args.text.now c.in-Some.after.now) i (toks c.args.text.now c.in_ok-item.after.now) c.in_ok-item.ensures) in
-    record { same = rw (c.in_ok-add_item.ensures.same c.args.text.now) k; sized = c.in_ok-add_item.ensures.sized c.args.text.now c.definitions.invariant.sized; indexed = c.in_ok-add_item.ensures.indexed c.definitions.invariant.indexed }
+    (item_ok s b (toks c.args.text.now c.in-Some.after.now) i (toks c.args.text.now c.in_ok-item.after.now) c.in_ok-item.ensures.reads) in
+    record { same = rw (c.in_ok-add_item.ensures.same c.args.text.now) k; sized = c.in_ok-add_item.ensures.sized c.args.text.now c.definitions.invariant.sized; indexed = c.in_ok-add_item.ensures.indexed c.definitions.invariant.indexed c.in_ok-item.ensures.indexed }
 
 pub definitions-smaller : goal.definitions-smaller
 definitions-smaller c =
@@ -50,4 +50,4 @@ definitions-smaller c =
     let b = begin_as c.in-Some-2.begin in
     let i = item_of c.args.text.now c.in_ok-item.item in
     toks_fall (definition s b) c.args.text.now c.definitions.rest.now c.in-Some.first.now c.in-Some.after.now c.in_ok-item.after.now (with_item s i) c.in-Some.ensures.cases.0
-    (item_ok s b (toks c.args.text.now c.in-Some.after.now) i (toks c.args.text.now c.in_ok-item.after.now) c.in_ok-item.ensures)
+    (item_ok s b (toks c.args.text.now c.in-Some.after.now) i (toks c.args.text.now c.in_ok-item.after.now) c.in_ok-item.ensures.reads)

@@ -6,7 +6,7 @@ use Rattle.std.proofs.lemmas.List.{map-append}
 use Rattle.std.proofs.lemmas.Slice.Zip.{all_zipped_more}
 use Rattle.name_index.specs.declared.index.NameIndex.{NameIndex}
 use Rattle.idl_tokens.specs.declared.token.Span.{Span}
-use Rattle.idl_tokens.specs.Spans.{bytes_at}
+use Rattle.idl_tokens.specs.Spans.{text_at}
 use Rattle.idl_grammar.specs.declared.fault.ReadError.{ReadError}
 use Rattle.idl_profile.specs.Meaning as m
 use Rattle.idl_fields.specs.declared.draft.Expr.{Expr}
@@ -33,13 +33,13 @@ nameds_push text ns ms one e = ap (nameds_of text) e ∙ map-append (named_of te
 
 pub added : (text : List ℕ) (r : Result (Unit {0}) ReadError) (old mid new : Scope) (one : Named) (w : Span) (t : Expr) (ty : m.Ty) → type_of t ≡ ty
     → mid.named.items ≡ old.named.items ++ one ∷ [] → mid.entries ≡ old.entries → new.named ≡ mid.named → OnOk r (new.entries.items ≡ mid.entries.items ++ entry w t ∷ [])
-    → OnOk r (scope_of text new ≡ record { entries = entries_of text old.entries.items ++ record { name = bytes_at text w; type = ty } ∷ []; named = nameds_of text old.named.items ++ named_of text one ∷ [] })
+    → OnOk r (scope_of text new ≡ record { entries = entries_of text old.entries.items ++ record { name = text_at text w; type = ty } ∷ []; named = nameds_of text old.named.items ++ named_of text one ∷ [] })
 unfolding make
 added text (Err e) old mid new one w t ty is pushed kept same more = tt
 added text (Ok u) old mid new one w t ty is pushed kept same more =
     ap₂ make
     (ap (entries_of text) more ∙ ap (λ v. entries_of text (v.items ++ entry w t ∷ [])) kept ∙ map-append (entry_of text) old.entries.items (entry w t ∷ [])
-    ∙ ap (λ (z : m.Ty). entries_of text old.entries.items ++ record { name = bytes_at text w; type = z } ∷ []) is)
+    ∙ ap (λ (z : m.Ty). entries_of text old.entries.items ++ record { name = text_at text w; type = z } ∷ []) is)
     (ap (λ v. nameds_of text v.items) same ∙ nameds_push text old.named.items mid.named.items one pushed)
 
 pub indexes_push : (text : List ℕ) (is js : List NameIndex) (ns ms : List Named) (index : NameIndex) (one : Named) → js ≡ is ++ index ∷ [] → ms ≡ ns ++ one ∷ []

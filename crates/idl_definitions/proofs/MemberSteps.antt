@@ -4,7 +4,7 @@ use Rattle.std.specs.Prelude.{ℤ}
 use Rattle.name_index.specs.declared.index.NameIndex.{NameIndex}
 use Rattle.name_index.specs.Names.{Indexes}
 use Rattle.idl_tokens.specs.declared.token.Span.{Span}
-use Rattle.idl_tokens.specs.Spans.{bytes_at}
+use Rattle.idl_tokens.specs.Spans.{text_at}
 use Rattle.idl_grammar.specs.declared.fault.Stop.{Stop}
 use Rattle.idl_fields.specs.declared.draft.Member.{Member}
 use Rattle.idl_profile.specs.Types as types
@@ -21,15 +21,15 @@ abbrev pub make : List types.Member → Option ℤ → Members
 make xs n = record { list = xs; coming = n }
 
 pub members_push : (text : List ℕ) (xs ys : List Member) (x : Member) (was now : Option ℤ) → ys ≡ xs ++ x ∷ [] → now ≡ next_number x.number.value
-    → make (map (member_of text) ys) now ≡ with_member (make (map (member_of text) xs) was) (bytes_at text x.name) x.number.value
+    → make (map (member_of text) ys) now ≡ with_member (make (map (member_of text) xs) was) (text_at text x.name) x.number.value
 members_push text xs ys x was now e f =
     ap (λ (z : List types.Member). make z now) (ap (map (member_of text)) e ∙ push text xs x) ∙ ap (make (map (member_of text) xs ++ member_of text x ∷ [])) f
 
-one_more : (text : List ℕ) (xs : List Member) (x : Member) → names_of (map (member_of text) xs) ++ bytes_at text x.name ∷ [] ≡ names_of (map (member_of text) (xs ++ x ∷ []))
+one_more : (text : List ℕ) (xs : List Member) (x : Member) → names_of (map (member_of text) xs) ++ text_at text x.name ∷ [] ≡ names_of (map (member_of text) (xs ++ x ∷ []))
 one_more text [] x = refl
-one_more text (y ∷ xs) x = ap (λ (z : List (List ℕ)). bytes_at text y.name ∷ z) (one_more text xs x)
+one_more text (y ∷ xs) x = ap (λ (z : List (List ℕ)). text_at text y.name ∷ z) (one_more text xs x)
 
-pub names_push : (text name : List ℕ) (index : NameIndex) (xs ys : List Member) (x : Member) → name ≡ bytes_at text x.name → ys ≡ xs ++ x ∷ [] → Indexes index (names_of (map (member_of text) xs) ++ name ∷ [])
+pub names_push : (text name : List ℕ) (index : NameIndex) (xs ys : List Member) (x : Member) → name ≡ text_at text x.name → ys ≡ xs ++ x ∷ [] → Indexes index (names_of (map (member_of text) xs) ++ name ∷ [])
     → IndexesMembers text index ys
 names_push text name index xs ys x is more h =
     subst (Indexes index) (ap (λ (n : List ℕ). names_of (map (member_of text) xs) ++ n ∷ []) is ∙ one_more text xs x ∙ ap (λ (z : List Member). names_of (map (member_of text) z)) (sym more)) h

@@ -12,7 +12,7 @@ use Rattle.idl_fields.specs.declared.draft.Expr.TheFolds.{fold-roll-Expr}
 use Rattle.idl_fields.specs.declared.draft.Expr.TheVariants as v
 use Rattle.idl_fields.specs.declared.draft.Expr.TheVariants.{rolls-List, rolls-Set, rolls-Map}
 use Rattle.idl_fields.specs.View.{type_of, type_step, fields_of, default_of}
-use Rattle.idl_tokens.specs.Spans.{bytes_at}
+use Rattle.idl_tokens.specs.Spans.{text_at}
 use Rattle.idl_fields.specs.declared.draft.Field.{Field}
 use Rattle.idl_profile.specs.Meaning.{Ty, list, set, map as m_map}
 use Rattle.std.specs.Prelude.{ℤ, List}
@@ -93,5 +93,5 @@ pub inside-step : (text : List ℕ) (ts : List TypeTree) (fs : List Field) (j : 
 inside-step text ts [] j f h e = absurd (omega arith)
 inside-step text ts (g ∷ fs) zero f h e =
     ap (λ (z : Field). with_branch z.need (size (tree ts (type_of z.ty))) (of_fields text ts fs)) e
-    ∙ inside-branch g.id.id (bytes_at text g.name) g.need (tree ts (type_of g.ty)) (default_of text g.default) (fields_in ts (fields_of text fs))
+    ∙ inside-branch g.id.id (text_at text g.name) g.need (tree ts (type_of g.ty)) (default_of text g.default) (fields_in ts (fields_of text fs))
 inside-step text ts (g ∷ fs) (suc j) f h e = inside-step text ts fs j f (omega arith) e

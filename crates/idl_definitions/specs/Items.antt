@@ -1,6 +1,6 @@
 -- What the values of this crate stand for.
 use Rattle.std.specs.Prelude.{ℕ, List, map, Option, Result, Ok, Err, option_map}
-use Rattle.idl_tokens.specs.Spans.{bytes_at}
+use Rattle.idl_tokens.specs.Spans.{text_at}
 use Rattle.idl_grammar.specs.declared.fault.Fault.{Fault}
 use Rattle.idl_grammar.specs.Grammar.{Turn, enter, wrong}
 use Rattle.idl_definitions.specs.declared.items.Choice.{Choice}
@@ -22,7 +22,7 @@ abbrev pub members_of : List ℕ → Members → j.Members
 members_of text ms = record { list = map (member_of text) ms.found.items; coming = option_map (λ w. w.value) ms.coming }
 
 abbrev pub choice_of : List ℕ → Choice → t.Choice
-choice_of text c = t.make_choice (bytes_at text c.name) (map (member_of text) c.members.items)
+choice_of text c = t.make_choice (text_at text c.name) (map (member_of text) c.members.items)
 
 abbrev pub item_of : List ℕ → Item → t.Item
 item_of text i.Nothing = t.nothing

@@ -1,6 +1,6 @@
 //! Adding what was read to what has been defined.
 ghost use Rattle.std.specs.Prelude.{◌≡◌, ◌++◌, ◌∷◌, ◌≤◌, [], ℕ, List, IfOk, IfErr, OnOk, map, length};
-ghost use Rattle.idl_tokens.specs.Spans.{bytes_at as bytes_of_span};
+ghost use Rattle.idl_tokens.specs.Spans.{text_at as text_of_span};
 ghost use Rattle.idl_profile.specs.Measures.{named_tree, trees};
 ghost use Rattle.idl_profile.specs.Text.{by_id as by_id_of, with_entry, with_enum, with_struct, with_item};
 ghost use Rattle.idl_fields.specs.View.{scope_of, alias_of, member_of, named_of, nameds_of, field_of, fields_of};
@@ -14,7 +14,7 @@ use crate::measure::{enum_size, size_of_struct};
 use idl_fields::draft::{Alias, Entry, Expr, Field, Named, Parts};
 use idl_fields::{Scope, Size};
 use idl_grammar::ReadError;
-use idl_tokens::{Span, bytes_at};
+use idl_tokens::{Span, text_at};
 use name_index::NameIndex;
 use std::alloc::Global;
 
@@ -33,7 +33,7 @@ fn next_place(named: &[Named]) -> Result<u32, ReadError>
 
 fn add_entry(
     alloc: Global,
-    text: &[u8],
+    text: &str,
     scope: &mut Scope,
     name: Span,
     ty: Expr,
@@ -44,7 +44,7 @@ fn add_entry(
     ensures indexed { IsIndexed text.now scope.old → OnOk result (IsIndexed text.now scope.new) }
     ensures error { IfErr result (λ e. e ≡ ReadError.Memory) }
 {
-    scope.names.push(alloc, bytes_at(text, name))?;
+    scope.names.push(alloc, text_at(text, name))?;
     scope.entries.push(Entry { name, ty })?;
     Ok(())
 }
@@ -63,7 +63,7 @@ fn add_named(scope: &mut Scope, named: Named, names: NameIndex, size: Size) -> R
     Ok(())
 }
 
-fn add_alias(alloc: Global, text: &[u8], scope: &mut Scope, alias: Alias) -> Result<(), ReadError>
+fn add_alias(alloc: Global, text: &str, scope: &mut Scope, alias: Alias) -> Result<(), ReadError>
     ensures same { (bytes : List ℕ) → OnOk result (scope_of bytes scope.new ≡ with_entry (scope_of bytes scope.old) (alias_of bytes alias)) }
     ensures sized { (bytes : List ℕ) → IsSized bytes scope.old → OnOk result (IsSized bytes scope.new) }
     ensures indexed { IsIndexed text.now scope.old → OnOk result (IsIndexed text.now scope.new) }
@@ -73,13 +73,8 @@ fn add_alias(alloc: Global, text: &[u8], scope: &mut Scope, alias: Alias) -> Res
     add_entry(alloc, text, scope, name, ty)
 }
 
-fn add_choice(
-    alloc: Global,
-    text: &[u8],
-    scope: &mut Scope,
-    choice: Choice,
-) -> Result<(), ReadError>
-    ensures same { (bytes : List ℕ) → OnOk result (scope_of bytes scope.new ≡ with_enum (scope_of bytes scope.old) (bytes_of_span bytes choice.name) (map (member_of bytes) choice.members.items)) }
+fn add_choice(alloc: Global, text: &str, scope: &mut Scope, choice: Choice) -> Result<(), ReadError>
+    ensures same { (bytes : List ℕ) → OnOk result (scope_of bytes scope.new ≡ with_enum (scope_of bytes scope.old) (text_of_span bytes choice.name) (map (member_of bytes) choice.members.items)) }
     ensures sized { (bytes : List ℕ) → IsSized bytes scope.old → OnOk result (IsSized bytes scope.new) }
     ensures indexed { IsIndexed text.now scope.old → IndexesMembers text.now choice.names choice.members.items → OnOk result (IsIndexed text.now scope.new) }
     ensures error { IfErr result (λ e. e ≡ ReadError.Memory) }
@@ -96,12 +91,12 @@ fn add_choice(
 
 fn add_struct(
     alloc: Global,
-    text: &[u8],
+    text: &str,
     scope: &mut Scope,
     name: Span,
     fields: Vec<Field>,
 ) -> Result<(), ReadError>
-    ensures same { (bytes : List ℕ) → OnOk result (scope_of bytes scope.new ≡ with_struct (scope_of bytes scope.old) (bytes_of_span bytes name) (fields_of bytes fields.items)) }
+    ensures same { (bytes : List ℕ) → OnOk result (scope_of bytes scope.new ≡ with_struct (scope_of bytes scope.old) (text_of_span bytes name) (fields_of bytes fields.items)) }
     ensures sized { (bytes : List ℕ) → IsSized bytes scope.old → OnOk result (IsSized bytes scope.new) }
     ensures indexed { IsIndexed text.now scope.old → OnOk result (IsIndexed text.now scope.new) }
     ensures error { IfErr result (λ e. e ≡ ReadError.Memory) }
@@ -127,7 +122,7 @@ fn by_id(mut fields: Vec<Field>) -> Result<Vec<Field>, ReadError>
 }
 
 /// Adds what a definition or a header says.
-pub fn add_item(alloc: Global, text: &[u8], scope: &mut Scope, item: Item) -> Result<(), ReadError>
+pub fn add_item(alloc: Global, text: &str, scope: &mut Scope, item: Item) -> Result<(), ReadError>
     ensures same { (bytes : List ℕ) → OnOk result (scope_of bytes scope.new ≡ with_item (scope_of bytes scope.old) (item_of bytes item)) }
     ensures sized { (bytes : List ℕ) → IsSized bytes scope.old → OnOk result (IsSized bytes scope.new) }
     ensures indexed { IsIndexed text.now scope.old → IsIndexedItem text.now item → OnOk result (IsIndexed text.now scope.new) }

@@ -1,7 +1,7 @@
 //! Headers, typedefs and members of enums.
 
 ghost use Rattle.std.specs.Prelude.{◌≡◌, List, ℕ, Some, option_map};
-ghost use Rattle.idl_tokens.specs.Spans.{toks, bytes_at as bytes_of_span};
+ghost use Rattle.idl_tokens.specs.Spans.{toks, text_at as text_of_span};
 ghost use Rattle.idl_grammar.specs.Grammar.{token as token_that};
 ghost use Rattle.idl_grammar.specs.Run.{run, Gives};
 ghost use Rattle.idl_profile.specs.Judged.{a_scope, word_or_literal, a_member_number, a_literal};
@@ -15,7 +15,7 @@ use idl_fields::{
     read_type, wrong,
 };
 use idl_grammar::{Fault, ReadError};
-use idl_tokens::{Placed, Span, Token, bytes_at};
+use idl_tokens::{Placed, Span, Token, text_at};
 use std::alloc::Global;
 
 fn read_scope(tokens: &[Placed]) -> Result<&[Placed], ReadError>
@@ -32,7 +32,7 @@ fn read_scope(tokens: &[Placed]) -> Result<&[Placed], ReadError>
     }
 }
 
-fn read_target<'a>(text: &[u8], tokens: &'a [Placed]) -> Result<&'a [Placed], ReadError>
+fn read_target<'a>(text: &str, tokens: &'a [Placed]) -> Result<&'a [Placed], ReadError>
     ensures { Gives (λ x. (tt, toks text.now x.now)) result (run (token_that word_or_literal) (toks text.now tokens.now)) }
 {
     let Some((first, rest)) = tokens.split_first() else {
@@ -41,7 +41,7 @@ fn read_target<'a>(text: &[u8], tokens: &'a [Placed]) -> Result<&'a [Placed], Re
     match first.token {
         Token::Word(_) => Ok(rest),
         Token::Literal(x) => {
-            if has_backslash(bytes_at(text, x)) {
+            if has_backslash(text_at(text, x)) {
                 Err(wrong(Fault::Unsupported, first))
             } else {
                 Ok(rest)
@@ -55,7 +55,7 @@ fn read_target<'a>(text: &[u8], tokens: &'a [Placed]) -> Result<&'a [Placed], Re
 }
 
 /// A namespace after its first word.
-pub fn read_namespace<'a>(text: &[u8], tokens: &'a [Placed]) -> Result<&'a [Placed], ReadError>
+pub fn read_namespace<'a>(text: &str, tokens: &'a [Placed]) -> Result<&'a [Placed], ReadError>
     ensures { Gives (λ x. (tt, toks text.now x.now)) result (run namespace (toks text.now tokens.now)) }
 {
     let rest = read_scope(tokens)?;
@@ -67,7 +67,7 @@ pub fn read_namespace<'a>(text: &[u8], tokens: &'a [Placed]) -> Result<&'a [Plac
 #[tactic(auto, unfolding(idl_profile::specs::Text::typedef_parts))]
 pub fn read_typedef<'a>(
     alloc: Global,
-    text: &[u8],
+    text: &str,
     scope: &Scope,
     tokens: &'a [Placed],
 ) -> Result<(Alias, &'a [Placed]), ReadError>
@@ -132,15 +132,15 @@ pub fn read_own_number(
 }
 
 // A literal.
-fn read_literal<'a>(text: &[u8], tokens: &'a [Placed]) -> Result<(Span, &'a [Placed]), ReadError>
-    ensures { Gives (λ x. (bytes_of_span text.now x.0, toks text.now x.1.now)) result (run (token_that a_literal) (toks text.now tokens.now)) }
+fn read_literal<'a>(text: &str, tokens: &'a [Placed]) -> Result<(Span, &'a [Placed]), ReadError>
+    ensures { Gives (λ x. (text_of_span text.now x.0, toks text.now x.1.now)) result (run (token_that a_literal) (toks text.now tokens.now)) }
 {
     let Some((first, rest)) = tokens.split_first() else {
         return Err(none_left());
     };
     match first.token {
         Token::Literal(x) => {
-            if has_backslash(bytes_at(text, x)) {
+            if has_backslash(text_at(text, x)) {
                 Err(wrong(Fault::Unsupported, first))
             } else {
                 Ok((x, rest))
@@ -153,7 +153,7 @@ fn read_literal<'a>(text: &[u8], tokens: &'a [Placed]) -> Result<(Span, &'a [Pla
 }
 
 /// An include after its first word.
-pub fn read_include<'a>(text: &[u8], tokens: &'a [Placed]) -> Result<&'a [Placed], ReadError>
+pub fn read_include<'a>(text: &str, tokens: &'a [Placed]) -> Result<&'a [Placed], ReadError>
     ensures { Gives (λ x. (tt, toks text.now x.now)) result (run cpp_include (toks text.now tokens.now)) }
 {
     let (_, rest) = read_literal(text, tokens)?;

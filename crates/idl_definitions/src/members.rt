@@ -1,7 +1,7 @@
 //! Members of enums.
 
 ghost use Rattle.std.specs.Prelude.{◌≡◌, map, List, ℕ, option_map, IfOk, IfErr, OnOk};
-ghost use Rattle.idl_tokens.specs.Spans.{toks, tok_of, spot_of, bytes_at as bytes_of_span};
+ghost use Rattle.idl_tokens.specs.Spans.{toks, tok_of, spot_of, text_at as text_of_span};
 ghost use Rattle.idl_grammar.specs.Grammar.{first as first_of, loop as loop_of};
 ghost use Rattle.idl_grammar.specs.Run.{run, Gives, outcome};
 ghost use Rattle.idl_profile.specs.Judged.{a_member, no_members, next_number as next_number_of, is_mark as is_mark_of};
@@ -15,7 +15,7 @@ use crate::items::Choice;
 use idl_fields::draft::{Member, Whole};
 use idl_fields::{Scope, is_mark, new_name, none_left, read_end, read_mark, read_new_name, wrong};
 use idl_grammar::{Fault, ReadError};
-use idl_tokens::{Placed, Span, bytes_at};
+use idl_tokens::{Placed, Span, text_at};
 use name_index::NameIndex;
 use std::alloc::Global;
 
@@ -41,12 +41,12 @@ impl Members {
     }
 
     /// Adds a member at the end.
-    fn add(&mut self, alloc: Global, text: &[u8], member: Member) -> Result<(), ReadError>
-        ensures same { OnOk result (members_of text.now self.new ≡ with_member (members_of text.now self.old) (bytes_of_span text.now member.name) member.number.value) }
+    fn add(&mut self, alloc: Global, text: &str, member: Member) -> Result<(), ReadError>
+        ensures same { OnOk result (members_of text.now self.new ≡ with_member (members_of text.now self.old) (text_of_span text.now member.name) member.number.value) }
         ensures indexed { IndexesMembers text.now self.old.names self.old.found.items → OnOk result (IndexesMembers text.now self.new.names self.new.found.items) }
         ensures error { IfErr result (λ e. e ≡ ReadError.Memory) }
     {
-        self.names.push(alloc, bytes_at(text, member.name))?;
+        self.names.push(alloc, text_at(text, member.name))?;
         self.coming = next_number(member.number);
         self.found.push(member)?;
         Ok(())
@@ -64,7 +64,7 @@ fn follows_equals(after: &[Placed]) -> bool
 
 /// Whether another member begins here; the tokens after it are only looked at.
 fn member_turn(
-    text: &[u8],
+    text: &str,
     members: &Members,
     placed: &Placed,
     after: &[Placed],
@@ -103,12 +103,12 @@ fn next_number(z: Whole) -> Option<Whole>
 
 // A member after its name: its number.
 fn read_member<'a>(
-    text: &[u8],
+    text: &str,
     members: &Members,
     name: Span,
     tokens: &'a [Placed],
 ) -> Result<(Whole, &'a [Placed]), ReadError>
-    ensures { Gives (λ x. (with_member (members_of text.now members.now) (bytes_of_span text.now name) x.0.value, toks text.now x.1.now)) result (run (member (members_of text.now members.now) (bytes_of_span text.now name)) (toks text.now tokens.now)) }
+    ensures { Gives (λ x. (with_member (members_of text.now members.now) (text_of_span text.now name) x.0.value, toks text.now x.1.now)) result (run (member (members_of text.now members.now) (text_of_span text.now name)) (toks text.now tokens.now)) }
 {
     let (number, rest) = read_own_number(members.coming, tokens)?;
     let rest = read_end(text, rest)?;
@@ -118,7 +118,7 @@ fn read_member<'a>(
 // The members of an enum.
 fn read_members<'a>(
     alloc: Global,
-    text: &[u8],
+    text: &str,
     tokens: &'a [Placed],
 ) -> Result<(Members, &'a [Placed]), ReadError>
     ensures reads { Gives (λ x. (members_of text.now x.0, toks text.now x.1.now)) result (run (loop_of a_member member no_members) (toks text.now tokens.now)) }
@@ -143,7 +143,7 @@ fn read_members<'a>(
 #[tactic(auto, unfolding(idl_profile::specs::Text::enum_body))]
 fn read_enum_body<'a>(
     alloc: Global,
-    text: &[u8],
+    text: &str,
     tokens: &'a [Placed],
 ) -> Result<(Members, &'a [Placed]), ReadError>
     ensures reads { Gives (λ x. (map (member_of text.now) x.0.found.items, toks text.now x.1.now)) result (run enum_body (toks text.now tokens.now)) }
@@ -159,7 +159,7 @@ fn read_enum_body<'a>(
 #[tactic(auto, unfolding(idl_profile::specs::Text::enum_parts))]
 pub fn read_enum<'a>(
     alloc: Global,
-    text: &[u8],
+    text: &str,
     scope: &Scope,
     tokens: &'a [Placed],
 ) -> Result<(Choice, &'a [Placed]), ReadError>

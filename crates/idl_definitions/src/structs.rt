@@ -19,7 +19,7 @@ use idl_grammar::{Fault, ReadError};
 use idl_tokens::{Placed, Token};
 use std::alloc::Global;
 
-fn struct_end(text: &[u8], scope: &Scope, fields: &[Field], token: Token) -> Result<(), Fault>
+fn struct_end(text: &str, scope: &Scope, fields: &[Field], token: Token) -> Result<(), Fault>
     requires { IsSized text.now scope.now }
     ensures { result ≡ a_struct_end (nameds_of text.now scope.now.named.items) (fields_of text.now fields.now) (tok_of text.now token) }
 {
@@ -31,7 +31,7 @@ fn struct_end(text: &[u8], scope: &Scope, fields: &[Field], token: Token) -> Res
 }
 
 fn read_struct_end<'a>(
-    text: &[u8],
+    text: &str,
     scope: &Scope,
     fields: &[Field],
     tokens: &'a [Placed],
@@ -52,7 +52,7 @@ fn read_struct_end<'a>(
 #[tactic(auto, unfolding(idl_profile::specs::Text::struct_body))]
 fn read_struct_body<'a>(
     alloc: Global,
-    text: &[u8],
+    text: &str,
     scope: &Scope,
     tokens: &'a [Placed],
 ) -> Result<(Vec<Field>, &'a [Placed]), ReadError>
@@ -70,7 +70,7 @@ fn read_struct_body<'a>(
 #[tactic(auto, unfolding(idl_profile::specs::Text::struct_parts))]
 pub fn read_struct<'a>(
     alloc: Global,
-    text: &[u8],
+    text: &str,
     scope: &Scope,
     tokens: &'a [Placed],
 ) -> Result<(Parts, &'a [Placed]), ReadError>

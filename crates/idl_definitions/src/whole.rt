@@ -16,37 +16,34 @@ use crate::headers::{read_include, read_namespace, read_typedef};
 use crate::items::{Begin, Item};
 use crate::members::read_enum;
 use crate::structs::read_struct;
-use idl_fields::{Scope, none_left, one_of, same, wrong};
+use idl_fields::{Scope, none_left, one_of, wrong};
 use idl_grammar::{Fault, ReadError};
-use idl_tokens::{Placed, Token, bytes_at};
+use idl_tokens::{Placed, Token, text_at};
 use name_index::NameIndex;
 use std::alloc::Global;
 
-fn is_refused(w: &[u8]) -> bool
+fn is_refused(w: &str) -> bool
     ensures { result ≡ one_of_lem no_definition w.now }
 {
-    one_of(
-        &[b"union", b"exception", b"service", b"const", b"include"],
-        w,
-    )
+    one_of(&["union", "exception", "service", "const", "include"], w)
 }
 
 // What a word begins where a definition stands.
 #[tactic(auto, unfolding(idl_profile::specs::Judged::begin_of))]
-fn begin_of(w: &[u8]) -> Result<Begin, Fault>
+fn begin_of(w: &str) -> Result<Begin, Fault>
     ensures { turn_of result ≡ begin_of_word w.now }
 {
     if is_refused(w) {
         Err(Fault::Unsupported)
-    } else if same(w, b"namespace") {
+    } else if w == "namespace" {
         Ok(Begin::Namespace)
-    } else if same(w, b"cpp_include") {
+    } else if w == "cpp_include" {
         Ok(Begin::Include)
-    } else if same(w, b"typedef") {
+    } else if w == "typedef" {
         Ok(Begin::Typedef)
-    } else if same(w, b"enum") {
+    } else if w == "enum" {
         Ok(Begin::Enum)
-    } else if same(w, b"struct") {
+    } else if w == "struct" {
         Ok(Begin::Struct)
     } else {
         Err(Fault::Syntax)
@@ -54,11 +51,11 @@ fn begin_of(w: &[u8]) -> Result<Begin, Fault>
 }
 
 // Whether another definition or header begins here.
-fn definition_turn(text: &[u8], placed: &Placed) -> Result<Option<Begin>, ReadError>
+fn definition_turn(text: &str, placed: &Placed) -> Result<Option<Begin>, ReadError>
     ensures { (scope : Defined) (after : Tok) → Gives begins result (outcome (a_definition scope (tok_of text.now placed.now.token) after) (spot_of text.now placed.now)) }
 {
     match placed.token {
-        Token::Word(w) => match begin_of(bytes_at(text, w)) {
+        Token::Word(w) => match begin_of(text_at(text, w)) {
             Ok(begin) => Ok(Some(begin)),
             Err(fault) => Err(wrong(fault, placed)),
         },
@@ -75,7 +72,7 @@ fn definition_turn(text: &[u8], placed: &Placed) -> Result<Option<Begin>, ReadEr
 #[tactic(auto, unfolding(idl_profile::specs::Text::item))]
 fn read_item<'a>(
     alloc: Global,
-    text: &[u8],
+    text: &str,
     scope: &Scope,
     begin: Begin,
     tokens: &'a [Placed],
@@ -112,7 +109,7 @@ fn read_item<'a>(
 /// What a text defines, from its tokens.
 pub fn read_definitions<'a>(
     alloc: Global,
-    text: &[u8],
+    text: &str,
     tokens: &'a [Placed],
 ) -> Result<(Scope, &'a [Placed]), ReadError>
     ensures { Gives (λ x. (scope_of text.now x.0, toks text.now x.1.now)) result (run whole (toks text.now tokens.now)) }

@@ -5,16 +5,16 @@ use Rattle.std.specs.Ordering.{int_eq}
 use Rattle.std.specs.List.{list_any}
 use Rattle.name_index.specs.declared.index.NameIndex.{NameIndex}
 use Rattle.name_index.specs.Names.{Indexes}
-use Rattle.idl_tokens.specs.Spans.{bytes_at}
+use Rattle.idl_tokens.specs.Spans.{text_at}
 use Rattle.idl_fields.specs.declared.draft.Field.{Field}
 use Rattle.idl_profile.specs.Judged.{field_names, ids}
 use Rattle.idl_fields.specs.View.{fields_of}
 
-one_name : (text : List ℕ) (xs : List Field) (x : Field) → field_names (fields_of text xs) ++ bytes_at text x.name ∷ [] ≡ field_names (fields_of text (xs ++ x ∷ []))
+one_name : (text : List ℕ) (xs : List Field) (x : Field) → field_names (fields_of text xs) ++ text_at text x.name ∷ [] ≡ field_names (fields_of text (xs ++ x ∷ []))
 one_name text [] x = refl
-one_name text (y ∷ xs) x = ap (λ (z : List (List ℕ)). bytes_at text y.name ∷ z) (one_name text xs x)
+one_name text (y ∷ xs) x = ap (λ (z : List (List ℕ)). text_at text y.name ∷ z) (one_name text xs x)
 
-pub names_push : (text name : List ℕ) (index : NameIndex) (xs ys : List Field) (x : Field) → name ≡ bytes_at text x.name → ys ≡ xs ++ x ∷ [] → Indexes index (field_names (fields_of text xs) ++ name ∷ [])
+pub names_push : (text name : List ℕ) (index : NameIndex) (xs ys : List Field) (x : Field) → name ≡ text_at text x.name → ys ≡ xs ++ x ∷ [] → Indexes index (field_names (fields_of text xs) ++ name ∷ [])
     → Indexes index (field_names (fields_of text ys))
 names_push text name index xs ys x is more h =
     subst (Indexes index) (ap (λ (n : List ℕ). field_names (fields_of text xs) ++ n ∷ []) is ∙ one_name text xs x ∙ ap (λ (z : List Field). field_names (fields_of text z)) (sym more)) h

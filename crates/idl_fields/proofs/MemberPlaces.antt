@@ -4,6 +4,7 @@ use Rattle.std.specs.Prelude.{Option, Some, None, Result, Ok, Err, MatchOption, 
 use Rattle.std.specs.Borrow.{Bor}
 use Rattle.std.specs.List.{position, position_or_len}
 use Rattle.std.specs.Str.{bytes_eq}
+use Rattle.std.specs.Str.Pattern.{FindsTextPrefix, StripsPrefix}
 use Rattle.std.proofs.lemmas.Bool.{false_from_ne_true}
 use Rattle.std.proofs.lemmas.Bool.Decides.{nat_tests}
 use Rattle.std.proofs.lemmas.Grind.{common_steps}
@@ -21,6 +22,10 @@ use Rattle.idl_fields.specs.Indexed.{names_of}
 use Rattle.idl_fields.proofs.Finding.{past, within}
 
 -- ---- what stands behind the dot
+
+pub stripped : (name w : List ℕ) (r : Option (Bor (List ℕ))) → MatchOption r (FindsTextPrefix name w None) (λ x. StripsPrefix (FindsTextPrefix name) w x.now) → MatchOption r ((rest : List ℕ) → w ≢ name ++ rest) (λ x. w ≡ name ++ x.now)
+stripped name w None h = h
+stripped name w (Some x) h = h.1.1 ∙ ap (λ (z : List ℕ). name ++ z) (sym h.2)
 
 pub behind : (name w rest : List ℕ) (r : Option (Bor (List ℕ))) → w ≡ name ++ rest → MatchOption r ((z : List ℕ) → rest ≢ 46 ∷ z) (λ x. rest ≡ 46 ∷ x.now)
     → MatchOption r ((z : List ℕ) → w ≢ name ++ 46 ∷ z) (λ x. w ≡ name ++ 46 ∷ x.now)

@@ -2,7 +2,7 @@
 
 ghost use Rattle.std.specs.Prelude.{◌≡◌, ◌<◌, ℕ, List, [], option_map};
 ghost use Rattle.idl_tokens.specs.Tokens.{Tok};
-ghost use Rattle.idl_tokens.specs.Spans.{toks, tok_of, spot_of, bytes_at as bytes_of_span};
+ghost use Rattle.idl_tokens.specs.Spans.{toks, tok_of, spot_of, text_at as text_of_span};
 ghost use Rattle.idl_grammar.specs.Grammar.{token as token_that, look};
 ghost use Rattle.idl_grammar.specs.Run.{run, Gives, outcome};
 ghost use Rattle.idl_profile.specs.Judged.{a_field, an_id, number_default as number_default_of, scalar_number as scalar_number_of, an_int, literal_default as literal_default_of, scalar_literal as scalar_literal_of, scalar_word as scalar_word_of, enum_default as enum_default_of, bracket_default as bracket_default_of, brace_default as brace_default_of, word_default as word_default_of, a_default, a_default_end};
@@ -15,24 +15,24 @@ use crate::draft::{Default, Expr, Field, Id, Start, Typed, Whole};
 use crate::found::Found;
 use crate::names::read_new_name;
 use crate::notes::read_end;
-use crate::reading::{is_mark, is_word, none_left, read_mark, same, wrong};
+use crate::reading::{is_mark, is_word, none_left, read_mark, wrong};
 use crate::scope::{Scope, enum_default};
 use crate::types::read_type;
 use crate::words::has_backslash;
 use idl_grammar::{Fault, ReadError};
 use idl_profile::{Need, Scalar};
-use idl_tokens::{Placed, Span, Token, bytes_at};
+use idl_tokens::{Placed, Span, Token, text_at};
 use std::alloc::Global;
 
-fn read_need<'a>(text: &[u8], tokens: &'a [Placed]) -> Result<(Need, &'a [Placed]), ReadError>
+fn read_need<'a>(text: &str, tokens: &'a [Placed]) -> Result<(Need, &'a [Placed]), ReadError>
     ensures { Gives (λ x. (x.0, toks text.now x.1.now)) result (run (look need_of) (toks text.now tokens.now)) }
 {
     let Some((first, rest)) = tokens.split_first() else {
         return Err(none_left());
     };
-    if is_word(text, b"required", first.token) {
+    if is_word(text, "required", first.token) {
         Ok((Need::Required, rest))
-    } else if is_word(text, b"optional", first.token) {
+    } else if is_word(text, "optional", first.token) {
         Ok((Need::Optional, rest))
     } else {
         Ok((Need::Plain, tokens))
@@ -53,7 +53,7 @@ fn id_of(found: &Found, z: Whole) -> Result<Id, Fault>
 }
 
 /// Whether another field begins here.
-fn field_turn(text: &[u8], found: &Found, placed: &Placed) -> Result<Option<Id>, ReadError>
+fn field_turn(text: &str, found: &Found, placed: &Placed) -> Result<Option<Id>, ReadError>
     requires { IsFound text.now found.now }
     ensures { (after : Tok) → Gives (λ x. option_map (λ i. i.id) x) result (outcome (a_field (fields_of text.now found.now.fields.items) (tok_of text.now placed.now.token) after) (spot_of text.now placed.now)) }
 {
@@ -82,7 +82,7 @@ fn number_default(ty: &Expr, z: Whole) -> Result<Start, Fault>
 }
 
 fn literal_default(ty: &Expr, x: Span) -> Result<Start, Fault>
-    ensures { (text : List ℕ) → judged_start text result ≡ literal_default_of (type_of ty.now) (bytes_of_span text x) }
+    ensures { (text : List ℕ) → judged_start text result ≡ literal_default_of (type_of ty.now) (text_of_span text x) }
 {
     match ty {
         Expr::Scalar(s) => scalar_literal(*s, x),
@@ -144,7 +144,7 @@ fn scalar_number(s: Scalar, z: Whole) -> Result<Start, Fault>
 }
 
 fn scalar_literal(s: Scalar, x: Span) -> Result<Start, Fault>
-    ensures { (text : List ℕ) → judged_start text result ≡ scalar_literal_of s (bytes_of_span text x) }
+    ensures { (text : List ℕ) → judged_start text result ≡ scalar_literal_of s (text_of_span text x) }
 {
     match s {
         Scalar::Text | Scalar::Bytes => Ok(Start::Complete(Default::Text(x))),
@@ -154,14 +154,14 @@ fn scalar_literal(s: Scalar, x: Span) -> Result<Start, Fault>
     }
 }
 
-fn scalar_word(s: Scalar, w: &[u8]) -> Result<Start, Fault>
+fn scalar_word(s: Scalar, w: &str) -> Result<Start, Fault>
     ensures { (text : List ℕ) → judged_start text result ≡ scalar_word_of s w.now }
 {
     match s {
         Scalar::Flag => {
-            if same(w, b"true") {
+            if w == "true" {
                 Ok(Start::Complete(Default::Flag(true)))
-            } else if same(w, b"false") {
+            } else if w == "false" {
                 Ok(Start::Complete(Default::Flag(false)))
             } else {
                 Err(Fault::BadDefault)
@@ -173,7 +173,7 @@ fn scalar_word(s: Scalar, w: &[u8]) -> Result<Start, Fault>
     }
 }
 
-fn word_default(text: &[u8], scope: &Scope, ty: &Expr, w: &[u8]) -> Result<Start, Fault>
+fn word_default(text: &str, scope: &Scope, ty: &Expr, w: &str) -> Result<Start, Fault>
     requires { IsIndexed text.now scope.now }
     ensures { judged_start text.now result ≡ word_default_of (nameds_of text.now scope.now.named.items) (type_of ty.now) w.now }
 {
@@ -185,7 +185,7 @@ fn word_default(text: &[u8], scope: &Scope, ty: &Expr, w: &[u8]) -> Result<Start
 }
 
 /// What a token means where a default begins, or its fault.
-fn start_of(text: &[u8], scope: &Scope, ty: &Expr, token: Token) -> Result<Start, Fault>
+fn start_of(text: &str, scope: &Scope, ty: &Expr, token: Token) -> Result<Start, Fault>
     requires { IsIndexed text.now scope.now }
     ensures { judged_start text.now result ≡ a_default (nameds_of text.now scope.now.named.items) (type_of ty.now) (tok_of text.now token) }
 {
@@ -193,13 +193,13 @@ fn start_of(text: &[u8], scope: &Scope, ty: &Expr, token: Token) -> Result<Start
         Token::Number(Some(value)) => number_default(ty, Whole { value }),
         Token::Number(None) => Err(Fault::Unsupported),
         Token::Literal(x) => {
-            if has_backslash(bytes_at(text, x)) {
+            if has_backslash(text_at(text, x)) {
                 Err(Fault::Unsupported)
             } else {
                 literal_default(ty, x)
             }
         }
-        Token::Word(w) => word_default(text, scope, ty, bytes_at(text, w)),
+        Token::Word(w) => word_default(text, scope, ty, text_at(text, w)),
         Token::Mark(b'[') => bracket_default(ty),
         Token::Mark(b'{') => brace_default(ty),
         Token::Mark(_) | Token::Finish | Token::Bad => Err(Fault::Syntax),
@@ -207,7 +207,7 @@ fn start_of(text: &[u8], scope: &Scope, ty: &Expr, token: Token) -> Result<Start
 }
 
 fn read_default_end<'a>(
-    text: &[u8],
+    text: &str,
     mark: u8,
     tokens: &'a [Placed],
 ) -> Result<&'a [Placed], ReadError>
@@ -235,7 +235,7 @@ fn read_default_end<'a>(
 }
 
 fn read_start<'a>(
-    text: &[u8],
+    text: &str,
     scope: &Scope,
     ty: &Expr,
     tokens: &'a [Placed],
@@ -253,7 +253,7 @@ fn read_start<'a>(
 }
 
 fn read_default<'a>(
-    text: &[u8],
+    text: &str,
     scope: &Scope,
     ty: &Expr,
     tokens: &'a [Placed],
@@ -281,7 +281,7 @@ fn read_default<'a>(
 #[tactic(auto, unfolding(idl_profile::specs::Text::typed))]
 fn read_typed<'a>(
     alloc: Global,
-    text: &[u8],
+    text: &str,
     scope: &Scope,
     found: &Found,
     tokens: &'a [Placed],
@@ -301,7 +301,7 @@ fn read_typed<'a>(
 #[tactic(auto, unfolding(idl_profile::specs::Text::field))]
 fn read_field<'a>(
     alloc: Global,
-    text: &[u8],
+    text: &str,
     scope: &Scope,
     found: &Found,
     id: Id,
@@ -330,7 +330,7 @@ fn read_field<'a>(
 /// The fields of a struct, in the order of the text.
 pub fn read_fields<'a>(
     alloc: Global,
-    text: &[u8],
+    text: &str,
     scope: &Scope,
     tokens: &'a [Placed],
 ) -> Result<(Vec<Field>, &'a [Placed]), ReadError>

@@ -10,7 +10,7 @@ ghost use Rattle.idl_fields.specs.Found.{IsFound};
 
 use crate::draft::{Field, Id, Whole};
 use idl_grammar::ReadError;
-use idl_tokens::bytes_at;
+use idl_tokens::text_at;
 use name_index::NameIndex;
 use std::alloc::Global;
 use std::collections::HashSet;
@@ -53,12 +53,12 @@ impl Found {
     }
 
     /// Adds a field at the end.
-    pub fn add(&mut self, alloc: Global, text: &[u8], field: Field) -> Result<(), ReadError>
+    pub fn add(&mut self, alloc: Global, text: &str, field: Field) -> Result<(), ReadError>
         ensures fields { OnOk result (self.new.fields.items ≡ self.old.fields.items ++ field ∷ []) }
         ensures found { IsFound text.now self.old → OnOk result (IsFound text.now self.new) }
         ensures error { IfErr result (λ e. e ≡ ReadError.Memory) }
     {
-        self.names.push(alloc, bytes_at(text, field.name))?;
+        self.names.push(alloc, text_at(text, field.name))?;
         add_id(&mut self.ids, field.id)?;
         self.fields.push(field)?;
         Ok(())

@@ -15,7 +15,7 @@ mod words;
 pub use fields::read_fields;
 pub use names::{new_name, read_new_name};
 pub use notes::{read_ann, read_end};
-pub use reading::{is_mark, none_left, read_mark, read_sep, same, wrong};
+pub use reading::{is_mark, none_left, read_mark, read_sep, wrong};
 pub use scope::Scope;
 pub use sizes::Size;
 pub use types::read_type;

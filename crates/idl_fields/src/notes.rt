@@ -11,9 +11,9 @@ ghost use Rattle.idl_profile.specs.Text.{note, ann, ended};
 use crate::reading::{is_mark, none_left, read_mark, read_sep, wrong};
 use crate::words::{has_backslash, is_refused_note};
 use idl_grammar::{Fault, ReadError};
-use idl_tokens::{Placed, Token, bytes_at};
+use idl_tokens::{Placed, Token, text_at};
 
-fn read_value<'a>(text: &[u8], tokens: &'a [Placed]) -> Result<&'a [Placed], ReadError>
+fn read_value<'a>(text: &str, tokens: &'a [Placed]) -> Result<&'a [Placed], ReadError>
     ensures { Gives (λ x. (tt, toks text.now x.now)) result (run (token_that a_value) (toks text.now tokens.now)) }
 {
     let Some((first, rest)) = tokens.split_first() else {
@@ -24,7 +24,7 @@ fn read_value<'a>(text: &[u8], tokens: &'a [Placed]) -> Result<&'a [Placed], Rea
         Token::Number(Some(_)) => Ok(rest),
         Token::Number(None) => Err(wrong(Fault::Unsupported, first)),
         Token::Literal(x) => {
-            if has_backslash(bytes_at(text, x)) {
+            if has_backslash(text_at(text, x)) {
                 Err(wrong(Fault::Unsupported, first))
             } else {
                 Ok(rest)
@@ -35,7 +35,7 @@ fn read_value<'a>(text: &[u8], tokens: &'a [Placed]) -> Result<&'a [Placed], Rea
 }
 
 /// An annotation after its word.
-fn read_note<'a>(text: &[u8], tokens: &'a [Placed]) -> Result<&'a [Placed], ReadError>
+fn read_note<'a>(text: &str, tokens: &'a [Placed]) -> Result<&'a [Placed], ReadError>
     ensures { Gives (λ x. (tt, toks text.now x.now)) result (run note (toks text.now tokens.now)) }
 {
     let Some((first, rest)) = tokens.split_first() else {
@@ -50,12 +50,12 @@ fn read_note<'a>(text: &[u8], tokens: &'a [Placed]) -> Result<&'a [Placed], Read
 }
 
 /// Whether another annotation begins here.
-fn note_turn(text: &[u8], placed: &Placed) -> Result<Option<()>, ReadError>
+fn note_turn(text: &str, placed: &Placed) -> Result<Option<()>, ReadError>
     ensures { (after : Tok) → Gives (λ x. x) result (outcome (a_note yes (tok_of text.now placed.now.token) after) (spot_of text.now placed.now)) }
 {
     match placed.token {
         Token::Word(w) => {
-            if is_refused_note(bytes_at(text, w)) {
+            if is_refused_note(text_at(text, w)) {
                 Err(wrong(Fault::Unsupported, placed))
             } else {
                 Ok(Some(()))
@@ -66,7 +66,7 @@ fn note_turn(text: &[u8], placed: &Placed) -> Result<Option<()>, ReadError>
     }
 }
 
-fn read_notes<'a>(text: &[u8], tokens: &'a [Placed]) -> Result<&'a [Placed], ReadError>
+fn read_notes<'a>(text: &str, tokens: &'a [Placed]) -> Result<&'a [Placed], ReadError>
     ensures { Gives (λ x. (tt, toks text.now x.now)) result (run (loop_of a_note (λ _ _. note) yes) (toks text.now tokens.now)) }
 {
     let mut rest = tokens;
@@ -83,7 +83,7 @@ fn read_notes<'a>(text: &[u8], tokens: &'a [Placed]) -> Result<&'a [Placed], Rea
 }
 
 /// Annotations, where there are any.
-pub fn read_ann<'a>(text: &[u8], tokens: &'a [Placed]) -> Result<&'a [Placed], ReadError>
+pub fn read_ann<'a>(text: &str, tokens: &'a [Placed]) -> Result<&'a [Placed], ReadError>
     ensures { Gives (λ x. (tt, toks text.now x.now)) result (run ann (toks text.now tokens.now)) }
 {
     let Some((first, rest)) = tokens.split_first() else {
@@ -98,7 +98,7 @@ pub fn read_ann<'a>(text: &[u8], tokens: &'a [Placed]) -> Result<&'a [Placed], R
 }
 
 /// Annotations and a comma or semicolon, where there are any.
-pub fn read_end<'a>(text: &[u8], tokens: &'a [Placed]) -> Result<&'a [Placed], ReadError>
+pub fn read_end<'a>(text: &str, tokens: &'a [Placed]) -> Result<&'a [Placed], ReadError>
     ensures { Gives (λ x. (tt, toks text.now x.now)) result (run ended (toks text.now tokens.now)) }
 {
     let rest = read_ann(text, tokens)?;

@@ -1,7 +1,6 @@
 //! Reading by the small parts of the grammar.
 
 ghost use Rattle.std.specs.Prelude.{◌≡◌, ℕ, List};
-ghost use Rattle.std.specs.Str.{bytes_eq};
 ghost use Rattle.idl_tokens.specs.Spans.{tok_of, toks};
 ghost use Rattle.idl_grammar.specs.Grammar.{token as token_that, stop as stop_of};
 ghost use Rattle.idl_grammar.specs.Run.{run, Gives};
@@ -9,7 +8,7 @@ ghost use Rattle.idl_profile.specs.Judged.{is_mark as is_mark_of, is_word as is_
 ghost use Rattle.idl_profile.specs.Text.{sep};
 
 use idl_grammar::{Fault, ReadError, Stop};
-use idl_tokens::{Placed, Token, bytes_at};
+use idl_tokens::{Placed, Token, text_at};
 
 /// Where tokens are wanted after the last.
 pub fn none_left() -> ReadError
@@ -31,13 +30,6 @@ pub fn wrong(fault: Fault, placed: &Placed) -> ReadError
     })
 }
 
-/// Whether the bytes are the same.
-pub fn same(w: &[u8], x: &[u8]) -> bool
-    ensures { result ≡ bytes_eq w.now x.now }
-{
-    w == x
-}
-
 pub fn is_mark(mark: u8, token: Token) -> bool
     ensures { (text : List ℕ) → result ≡ is_mark_of mark (tok_of text token) }
 {
@@ -47,11 +39,11 @@ pub fn is_mark(mark: u8, token: Token) -> bool
     }
 }
 
-pub fn is_word(text: &[u8], x: &[u8], token: Token) -> bool
+pub fn is_word(text: &str, x: &str, token: Token) -> bool
     ensures { result ≡ is_word_of x.now (tok_of text.now token) }
 {
     match token {
-        Token::Word(w) => same(bytes_at(text, w), x),
+        Token::Word(w) => text_at(text, w) == x,
         _ => false,
     }
 }

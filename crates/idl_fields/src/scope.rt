@@ -4,7 +4,7 @@ ghost use Rattle.std.specs.Prelude.{◌≡◌, ◌≢◌, ◌++◌, ◌||◌, �
 ghost use Rattle.std.specs.List.{position};
 ghost use Rattle.std.specs.Str.{bytes_eq};
 ghost use Rattle.name_index.specs.Names.{Indexes};
-ghost use Rattle.idl_tokens.specs.Spans.{bytes_at as bytes_of_span};
+ghost use Rattle.idl_tokens.specs.Spans.{text_at as text_of_span};
 ghost use Rattle.idl_profile.specs.Judged.{enum_default as enum_default_of, member_number};
 ghost use Rattle.idl_fields.specs.View.{nameds_of, judged_start, member_of};
 ghost use Rattle.idl_fields.specs.Indexed.{IsIndexed, IndexesMembers};
@@ -12,7 +12,7 @@ ghost use Rattle.idl_fields.specs.Indexed.{IsIndexed, IndexesMembers};
 use crate::draft::{Default, Entry, Member, Named, Start};
 use crate::sizes::Size;
 use idl_grammar::Fault;
-use idl_tokens::{Span, bytes_at};
+use idl_tokens::{Span, text_at};
 use name_index::NameIndex;
 
 /// The names that stand for types, with their index, and the enums and structs in order.
@@ -27,21 +27,21 @@ pub struct Scope {
 }
 
 /// What a word has behind the name and a dot.
-fn after_dot<'a>(name: &[u8], w: &'a [u8]) -> Option<&'a [u8]>
+fn after_dot<'a>(name: &str, w: &'a str) -> Option<&'a str>
     ensures { MatchOption result ((rest : List ℕ) → w.now ≢ name.now ++ 46 ∷ rest) (λ rest. w.now ≡ name.now ++ 46 ∷ rest.now) }
 {
-    w.strip_prefix(name)?.strip_prefix(b".")
+    w.strip_prefix(name)?.strip_prefix('.')
 }
 
 /// The place of the first name that the word has behind the enum's name and a dot.
-fn dotted_place(names: &NameIndex, name: &[u8], w: &[u8]) -> Option<u32>
+fn dotted_place(names: &NameIndex, name: &str, w: &str) -> Option<u32>
     ensures { (stood : List (List ℕ)) → Indexes names.now stood → result ≡ position (λ n. bytes_eq (name.now ++ 46 ∷ n) w.now) stood }
 {
     names.place_of(after_dot(name, w)?)
 }
 
 /// The place of the first name that is the word, alone or behind the enum's name and a dot.
-fn member_place(names: &NameIndex, name: &[u8], w: &[u8]) -> Option<u32>
+fn member_place(names: &NameIndex, name: &str, w: &str) -> Option<u32>
     ensures { (stood : List (List ℕ)) → Indexes names.now stood → result ≡ position (λ n. bytes_eq n w.now || bytes_eq (name.now ++ 46 ∷ n) w.now) stood }
 {
     match (names.place_of(w), dotted_place(names, name, w)) {
@@ -53,16 +53,16 @@ fn member_place(names: &NameIndex, name: &[u8], w: &[u8]) -> Option<u32>
 
 /// The number of the first member that the word means.
 fn member_default(
-    text: &[u8],
+    text: &str,
     name: Span,
     members: &[Member],
     names: &NameIndex,
-    w: &[u8],
+    w: &str,
 ) -> Result<Start, Fault>
     requires { IndexesMembers text.now names.now members.now }
-    ensures { judged_start text.now result ≡ member_number (bytes_of_span text.now name) (map (member_of text.now) members.now) w.now }
+    ensures { judged_start text.now result ≡ member_number (text_of_span text.now name) (map (member_of text.now) members.now) w.now }
 {
-    let Some(place) = member_place(names, bytes_at(text, name), w) else {
+    let Some(place) = member_place(names, text_at(text, name), w) else {
         return Err(Fault::BadDefault);
     };
     let Some(member) = members.get(place as usize) else {
@@ -72,7 +72,7 @@ fn member_default(
 }
 
 /// The number of a member of this enum, written with or without the enum's name.
-pub fn enum_default(text: &[u8], scope: &Scope, n: u32, w: &[u8]) -> Result<Start, Fault>
+pub fn enum_default(text: &str, scope: &Scope, n: u32, w: &str) -> Result<Start, Fault>
     requires { IsIndexed text.now scope.now }
     ensures { judged_start text.now result ≡ enum_default_of (nameds_of text.now scope.now.named.items) n w.now }
 {

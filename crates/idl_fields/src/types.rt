@@ -12,11 +12,11 @@ ghost use Rattle.idl_fields.specs.Indexed.{IsIndexed};
 
 use crate::draft::{Expr, Head};
 use crate::notes::read_ann;
-use crate::reading::{is_mark, is_word, none_left, read_mark, same, wrong};
+use crate::reading::{is_mark, is_word, none_left, read_mark, wrong};
 use crate::scope::Scope;
 use crate::words::{is_name, scalar_of};
 use idl_grammar::{Fault, ReadError};
-use idl_tokens::{Placed, Span, Token, bytes_at};
+use idl_tokens::{Placed, Span, Token, text_at};
 use std::alloc::{AllocError, Global};
 
 /// A copy of a type.
@@ -54,7 +54,7 @@ fn is_key(ty: &Expr) -> bool
 }
 
 /// The type of a name.
-fn find<'a>(scope: &'a Scope, w: &[u8]) -> Option<&'a Expr>
+fn find<'a>(scope: &'a Scope, w: &str) -> Option<&'a Expr>
     ensures { (text : List ℕ) → IsIndexed text scope.now → option_map (λ t. type_of t.now) result ≡ find_in w.now (entries_of text scope.now.entries.items) }
 {
     let Some(place) = scope.names.place_of(w) else {
@@ -66,13 +66,13 @@ fn find<'a>(scope: &'a Scope, w: &[u8]) -> Option<&'a Expr>
     Some(&entry.ty)
 }
 
-fn read_open<'a>(text: &[u8], tokens: &'a [Placed]) -> Result<&'a [Placed], ReadError>
+fn read_open<'a>(text: &str, tokens: &'a [Placed]) -> Result<&'a [Placed], ReadError>
     ensures { Gives (λ x. (tt, toks text.now x.now)) result (run (token_that an_open) (toks text.now tokens.now)) }
 {
     let Some((first, rest)) = tokens.split_first() else {
         return Err(none_left());
     };
-    if is_word(text, b"cpp_type", first.token) {
+    if is_word(text, "cpp_type", first.token) {
         Err(wrong(Fault::Unsupported, first))
     } else if is_mark(b'<', first.token) {
         Ok(rest)
@@ -82,14 +82,14 @@ fn read_open<'a>(text: &[u8], tokens: &'a [Placed]) -> Result<&'a [Placed], Read
 }
 
 #[tactic(auto, unfolding(idl_profile::specs::Judged::container_of))]
-fn container_of(w: &[u8]) -> Option<Head>
+fn container_of(w: &str) -> Option<Head>
     ensures { option_map head_of result ≡ container_for w.now }
 {
-    if same(w, b"list") {
+    if w == "list" {
         Some(Head::List)
-    } else if same(w, b"set") {
+    } else if w == "set" {
         Some(Head::Set)
-    } else if same(w, b"map") {
+    } else if w == "map" {
         Some(Head::Map)
     } else {
         None
@@ -99,10 +99,10 @@ fn container_of(w: &[u8]) -> Option<Head>
 /// What a name means where a type stands, or its fault.
 fn named_type(
     alloc: Global,
-    text: &[u8],
+    text: &str,
     scope: &Scope,
     key: bool,
-    w: &[u8],
+    w: &str,
 ) -> Result<Result<Head, Fault>, AllocError>
     requires { IsIndexed text.now scope.now }
     ensures { IfOk result (λ r. judged_head r ≡ a_named_type (entries_of text.now scope.now.entries.items) key w.now) }
@@ -125,16 +125,16 @@ fn named_type(
 /// What a word means where a type stands, or its fault.
 fn word_type(
     alloc: Global,
-    text: &[u8],
+    text: &str,
     scope: &Scope,
     key: bool,
     room: bool,
-    w: &[u8],
+    w: &str,
 ) -> Result<Result<Head, Fault>, AllocError>
     requires { IsIndexed text.now scope.now }
     ensures { IfOk result (λ r. judged_head r ≡ a_word_type (entries_of text.now scope.now.entries.items) key room w.now) }
 {
-    if same(w, b"float") || same(w, b"double") {
+    if w == "float" || w == "double" {
         return Ok(Err(Fault::Unsupported));
     }
     if let Some(s) = scalar_of(w) {
@@ -156,7 +156,7 @@ fn word_type(
 
 fn read_head<'a>(
     alloc: Global,
-    text: &[u8],
+    text: &str,
     scope: &Scope,
     key: bool,
     room: bool,
@@ -171,7 +171,7 @@ fn read_head<'a>(
     let Token::Word(w) = first.token else {
         return Err(wrong(Fault::Syntax, first));
     };
-    match word_type(alloc, text, scope, key, room, bytes_at(text, w))? {
+    match word_type(alloc, text, scope, key, room, text_at(text, w))? {
         Ok(head) => Ok((head, rest)),
         Err(fault) => Err(wrong(fault, first)),
     }
@@ -182,7 +182,7 @@ fn read_head<'a>(
 #[tactic(auto, unfolding(idl_profile::specs::Text::inner))]
 pub fn read_type<'a>(
     alloc: Global,
-    text: &[u8],
+    text: &str,
     scope: &Scope,
     depth: u32,
     key: bool,
@@ -201,7 +201,7 @@ pub fn read_type<'a>(
 #[tactic(auto, unfolding(idl_profile::specs::Text::inner))]
 fn read_inner<'a>(
     alloc: Global,
-    text: &[u8],
+    text: &str,
     scope: &Scope,
     depth: u32,
     key: bool,
@@ -222,7 +222,7 @@ fn read_inner<'a>(
 #[cycle(kind)]
 fn read_after_head<'a>(
     alloc: Global,
-    text: &[u8],
+    text: &str,
     scope: &Scope,
     depth: u32,
     head: Head,

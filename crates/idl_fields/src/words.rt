@@ -6,101 +6,100 @@ ghost use Rattle.std.specs.Str.{bytes_eq};
 ghost use Rattle.std.specs.Prelude.{◌==◌};
 ghost use Rattle.idl_profile.specs.Judged.{one_of as one_of_lem, is_name as is_name_of, has_backslash as has_backslash_in, refused_notes, keywords, scalar_of as scalar_for};
 
-use crate::reading::same;
 use idl_profile::Scalar;
 
-/// Whether the bytes are one of the words.
-pub fn one_of(words: &[&[u8]], w: &[u8]) -> bool
+/// Whether this is one of the words.
+pub fn one_of(words: &[&str], w: &str) -> bool
     ensures { result ≡ list_any (λ x. bytes_eq x.now w.now) words.now }
 {
-    words.iter().any(|x| same(x, w))
+    words.iter().any(|x| *x == w)
 }
 
-fn is_keyword(w: &[u8]) -> bool
+fn is_keyword(w: &str) -> bool
     ensures { result ≡ one_of_lem keywords w.now }
 {
     one_of(
         &[
-            b"namespace",
-            b"cpp_include",
-            b"include",
-            b"typedef",
-            b"enum",
-            b"struct",
-            b"union",
-            b"exception",
-            b"service",
-            b"const",
-            b"required",
-            b"optional",
-            b"bool",
-            b"byte",
-            b"i8",
-            b"i16",
-            b"i32",
-            b"i64",
-            b"float",
-            b"double",
-            b"string",
-            b"binary",
-            b"list",
-            b"set",
-            b"map",
-            b"true",
-            b"false",
+            "namespace",
+            "cpp_include",
+            "include",
+            "typedef",
+            "enum",
+            "struct",
+            "union",
+            "exception",
+            "service",
+            "const",
+            "required",
+            "optional",
+            "bool",
+            "byte",
+            "i8",
+            "i16",
+            "i32",
+            "i64",
+            "float",
+            "double",
+            "string",
+            "binary",
+            "list",
+            "set",
+            "map",
+            "true",
+            "false",
         ],
         w,
     )
 }
 
-fn has_dot(w: &[u8]) -> bool
+fn has_dot(w: &str) -> bool
     ensures { result ≡ list_any (λ b. b == 46) w.now }
 {
-    w.iter().any(|b| *b == b'.')
+    w.as_bytes().iter().any(|b| *b == b'.')
 }
 
 /// A word that is no keyword and has no dot.
 #[tactic(auto, unfolding(idl_profile::specs::Judged::is_name))]
-pub fn is_name(w: &[u8]) -> bool
+pub fn is_name(w: &str) -> bool
     ensures { result ≡ is_name_of w.now }
 {
     !is_keyword(w) && !has_dot(w)
 }
 
-pub fn has_backslash(x: &[u8]) -> bool
+pub fn has_backslash(x: &str) -> bool
     ensures { result ≡ has_backslash_in x.now }
 {
-    x.iter().any(|b| *b == b'\\')
+    x.as_bytes().iter().any(|b| *b == b'\\')
 }
 
-pub fn is_refused_note(w: &[u8]) -> bool
+pub fn is_refused_note(w: &str) -> bool
     ensures { result ≡ one_of_lem refused_notes w.now }
 {
     one_of(
-        &[b"cpp.type", b"cpp2.type", b"cpp.template", b"cpp2.template"],
+        &["cpp.type", "cpp2.type", "cpp.template", "cpp2.template"],
         w,
     )
 }
 
 #[tactic(auto, unfolding(idl_profile::specs::Judged::scalar_of))]
-pub fn scalar_of(w: &[u8]) -> Option<Scalar>
+pub fn scalar_of(w: &str) -> Option<Scalar>
     ensures { result ≡ scalar_for w.now }
 {
-    if same(w, b"bool") {
+    if w == "bool" {
         Some(Scalar::Flag)
-    } else if same(w, b"byte") {
+    } else if w == "byte" {
         Some(Scalar::I8)
-    } else if same(w, b"i8") {
+    } else if w == "i8" {
         Some(Scalar::I8)
-    } else if same(w, b"i16") {
+    } else if w == "i16" {
         Some(Scalar::I16)
-    } else if same(w, b"i32") {
+    } else if w == "i32" {
         Some(Scalar::I32)
-    } else if same(w, b"i64") {
+    } else if w == "i64" {
         Some(Scalar::I64)
-    } else if same(w, b"string") {
+    } else if w == "string" {
         Some(Scalar::Text)
-    } else if same(w, b"binary") {
+    } else if w == "binary" {
         Some(Scalar::Bytes)
     } else {
         None

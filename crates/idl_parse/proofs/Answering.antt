@@ -1,6 +1,6 @@
 -- A text has one answer.
 use Rattle.std.proofs.Common.{◌≡◌, ◌⊎◌, inl, inr, Bool, true, false, List, ℕ, Result, Ok, Err, refl, sym, ap, subst, ◌∙◌}
-use Rattle.std.specs.Prelude.{MatchBool, MatchResult, IfOk, IfErr, [], ◌∷◌}
+use Rattle.std.specs.Prelude.{MatchResult, IfOk, IfErr, [], ◌∷◌}
 use Rattle.std.specs.List.{list_any}
 use Rattle.std.specs.Str.{IsUtf8}
 use Rattle.idl_tokens.specs.Tokens.{Toks, tokens}
@@ -11,7 +11,7 @@ use Rattle.idl_grammar.proofs.Exact.{spelled, blamed}
 use Rattle.idl_profile.specs.Types.{Named}
 use Rattle.idl_profile.specs.Meaning as m
 use Rattle.idl_profile.specs.Text.{whole}
-use Rattle.idl_profile.specs.DefText.{has_struct, means, fault, no_root as none}
+use Rattle.idl_profile.specs.DefText.{DefTokens, has_struct, means, fault, no_root as none}
 use Rattle.idl_profile.proofs.DefLaws.{one_answer}
 use Rattle.idl_parse.specs.declared.fault.DefFault.{DefFault}
 use Rattle.idl_parse.specs.declared.fault.DefFault.TheVariants as f
@@ -23,11 +23,10 @@ use Rattle.idl_parse.specs.Faults.{fault_of, fault_of_read}
 use Rattle.idl_parse.specs.Parsed.{DefText, FirstFault, not_utf8, faulty, no_root, definition_in, definition_of, Answers}
 use Rattle.idl_parse.specs.Drafts.{is_struct}
 
-pub read-means : (text : List ℕ) (ts : Toks) (scope : m.Scope) (rest : Toks) → IsUtf8 text → ts ≡ tokens text → run whole ts ≡ Ok (scope, rest) → has_struct scope.named ≡ true
-    → DefText text (definition_in scope.named)
-read-means text ts scope rest u is e s =
+pub read-means : (text : List ℕ) (ts : Toks) (scope : m.Scope) (rest : Toks) → ts ≡ tokens text → run whole ts ≡ Ok (scope, rest) → has_struct scope.named ≡ true → DefTokens (tokens text) scope.named
+read-means text ts scope rest is e s =
     let k : run whole (tokens text) ≡ Ok (scope, rest) = ap (run whole) (sym is) ∙ e in
-    record { utf8 = u; read = scope.named; means = record { scope = scope; rest = rest; spells = spelled whole (tokens text) scope rest k; means = refl; root = s }; is = refl }
+    record { scope = scope; rest = rest; spells = spelled whole (tokens text) scope rest k; means = refl; root = s }
 
 pub read-no_root : (text : List ℕ) (ts : Toks) (scope : m.Scope) (rest : Toks) → IsUtf8 text → ts ≡ tokens text → run whole ts ≡ Ok (scope, rest) → has_struct scope.named ≡ false
     → FirstFault text f.NoRoot
@@ -81,15 +80,9 @@ any-struct text (n.Struct w fs ∷ xs) = refl
 pub read-rooted : (text : List ℕ) (ts : Toks) (scope : m.Scope) (rest : Toks) (result : Result Definition DefFault) → IsUtf8 text → ts ≡ tokens text → run whole ts ≡ Ok (scope, rest)
     → IfOk result (λ d. (definition_of d ≡ definition_in scope.named) × (has_struct scope.named ≡ true)) → IfErr result (λ e. (e ≡ f.NoMemory) ⊎ ((e ≡ f.NoRoot) × (has_struct scope.named ≡ false)))
     → Answers text result
-read-rooted text ts scope rest (Ok d) u is e ok err = subst (DefText text) (sym ok.0) (read-means text ts scope rest u is e ok.1)
+read-rooted text ts scope rest (Ok d) u is e ok err = subst (DefText text) (sym ok.0) (record { utf8 = u; read = scope.named; means = read-means text ts scope rest is e ok.1; is = refl })
 read-rooted text ts scope rest (Err k) u is e ok (inl h) = inl h
 read-rooted text ts scope rest (Err k) u is e ok (inr h) = inr (subst (FirstFault text) (sym h.0) (read-no_root text ts scope rest u is e h.1))
-
-pub is-not : (b : Bool) (A B : Type 0) → MatchBool b A B → b ≡ false → B
-is-not b A B h e = subst (λ (z : Bool). MatchBool z A B) e h
-
-pub is-so : (b : Bool) (A B : Type 0) → MatchBool b A B → b ≡ true → A
-is-so b A B h e = subst (λ (z : Bool). MatchBool z A B) e h
 
 pub struct-test : (text : List ℕ) (xs : List draft.Named) (b v : Bool) → b ≡ list_any is_struct xs → b ≡ v → has_struct (nameds_of text xs) ≡ v
 struct-test text xs b v e h = sym (any-struct text xs) ∙ sym e ∙ h

@@ -1,13 +1,13 @@
 -- What stands at a number among the first enums and structs.
 use Rattle.std.proofs.Common.{◌≡◌, ℕ, zero, suc, ◌+◌, ◌<◌, ◌≤◌, List, [], ◌∷◌, ◌++◌, length, take, get_or, Bool, true, false, ◌&&◌, Some, None, refl, sym, ap, ◌∙◌, arith, length-append}
-use Rattle.std.specs.Prelude.{slice_get, option_map}
+use Rattle.std.specs.Prelude.{slice_get, option_map, string_bytes}
 use Rattle.std.specs.List.{fold}
 use Rattle.idl_profile.specs.Types as types
 use Rattle.idl_profile.specs.Types.{TypeTree, scalar, flag, named, field_list}
 use Rattle.idl_profile.specs.Meaning.{Named}
 use Rattle.idl_fields.specs.declared.draft.Named as draft
 use Rattle.idl_fields.specs.View.{named_of, nameds_of, type_of, default_of}
-use Rattle.idl_tokens.specs.Spans.{bytes_at}
+use Rattle.idl_tokens.specs.Spans.{text_at}
 use Rattle.idl_parse.specs.declared.definition.Definition.{Definition}
 use Rattle.idl_parse.specs.Told.{visible, Stands, told_at, element_of, key_of, value_of, fields_in, field_in}
 use Rattle.idl_parse.specs.declared.definition.Place.{Place}
@@ -108,16 +108,16 @@ got_none (y ∷ xs) (suc j) h = got_none xs j (omega arith)
 
 pub named-some : (d : Definition) (k j : ℕ) (xs : List draft.Named) (x : draft.Named) → xs ≡ d.named.items → j < k → j < length xs → x ≡ get_or xs j x → Stands d k j (Some x)
 named-some d k j xs x is h lt e =
-    stands-some (nameds_of d.text.items d.named.items) k j (named_of d.text.items x) h
-    (get_map d.text.items d.named.items j ∙ ap (λ (z : List draft.Named). option_map (named_of d.text.items) (slice_get z j)) (sym is) ∙ ap (option_map (named_of d.text.items)) (got xs j x lt e))
+    stands-some (nameds_of (string_bytes d.text) d.named.items) k j (named_of (string_bytes d.text) x) h
+    (get_map (string_bytes d.text) d.named.items j ∙ ap (λ (z : List draft.Named). option_map (named_of (string_bytes d.text)) (slice_get z j)) (sym is) ∙ ap (option_map (named_of (string_bytes d.text))) (got xs j x lt e))
 
 pub named-none : (d : Definition) (k j : ℕ) (xs : List draft.Named) → xs ≡ d.named.items → j < k → length xs ≤ j → Stands d k j None
 named-none d k j xs is h lt =
-    stands-none (nameds_of d.text.items d.named.items) k j h
-    (get_map d.text.items d.named.items j ∙ ap (λ (z : List draft.Named). option_map (named_of d.text.items) (slice_get z j)) (sym is) ∙ ap (option_map (named_of d.text.items)) (got_none xs j lt))
+    stands-none (nameds_of (string_bytes d.text) d.named.items) k j h
+    (get_map (string_bytes d.text) d.named.items j ∙ ap (λ (z : List draft.Named). option_map (named_of (string_bytes d.text)) (slice_get z j)) (sym is) ∙ ap (option_map (named_of (string_bytes d.text))) (got_none xs j lt))
 
 pub named-beyond : (d : Definition) (k j : ℕ) → k ≤ j → Stands d k j None
-named-beyond d k j h = stands-beyond (nameds_of d.text.items d.named.items) k j h
+named-beyond d k j h = stands-beyond (nameds_of (string_bytes d.text) d.named.items) k j h
 
 -- what stands at a number has no parts
 abbrev IsPlain : TypeTree → Type 0
@@ -134,7 +134,7 @@ plain_grown ts [] p j = p j
 plain_grown ts (n ∷ ns) p j = plain_grown (ts ++ named_tree ts n ∷ []) ns (plain_last ts (named_in ts n) p) j
 
 plain : (d : Definition) (k j : ℕ) → IsPlain (at (visible d k) j)
-plain d k j = plain_grown [] (take k (nameds_of d.text.items d.named.items)) (λ i. (refl, refl, refl)) j
+plain d k j = plain_grown [] (take k (nameds_of (string_bytes d.text) d.named.items)) (λ i. (refl, refl, refl)) j
 
 pub no_element : (d : Definition) (k j : ℕ) (q : Place) → q ≡ p.Named j → told_at (visible d k) q ≡ element_of (told_at (visible d k) q)
 no_element d k j q is = let e : told_at (visible d k) q ≡ at (visible d k) j = ap (told_at (visible d k)) is in e ∙ sym (plain d k j).0 ∙ ap element_of (sym e)
@@ -147,7 +147,7 @@ no_value d k j q is = let e : told_at (visible d k) q ≡ at (visible d k) j = a
 
 pub fields-listed : (text : List ℕ) (ts : List TypeTree) (fs : List drafted.Field) → fields_in text ts fs ≡ field_list (fields ts (fields_of text fs))
 fields-listed text ts [] = refl
-fields-listed text ts (f ∷ fs) = ap (λ (z : List types.Field). record { id = f.id.id; name = bytes_at text f.name; need = f.need; type = tree ts (type_of f.ty); default = default_of text f.default } ∷ z) (fields-listed text ts fs)
+fields-listed text ts (f ∷ fs) = ap (λ (z : List types.Field). record { id = f.id.id; name = text_at text f.name; need = f.need; type = tree ts (type_of f.ty); default = default_of text f.default } ∷ z) (fields-listed text ts fs)
 
 all_and : (b c : Bool) → (b && c) ≡ true → (b ≡ true) × (c ≡ true)
 all_and true c e = (refl, e)

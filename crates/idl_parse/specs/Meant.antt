@@ -23,7 +23,3 @@ pub record DefText (text : List ℕ) (d : List Named) : Type 0 where
   pub read : List m.Named
   pub means : DefTokens (tokens text) read
   pub is : d ≡ definition_in read
-
--- some text means the definition
-abbrev pub IsMeant : List Named → Type 0
-IsMeant d = ∥ ((text : List ℕ) × DefText text d) ∥₁

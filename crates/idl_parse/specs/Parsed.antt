@@ -1,5 +1,5 @@
 -- Which texts mean a definition, and the first fault of every other text.
-use Rattle.std.specs.Prelude.{◌≡◌, ℕ, List, ◌⊎◌, Result, Ok, Err}
+use Rattle.std.specs.Prelude.{◌≡◌, ℕ, List, ◌⊎◌, Result, Ok, Err, string_bytes}
 use Rattle.std.specs.Str.{IsUtf8}
 use Rattle.idl_tokens.specs.Tokens.{tokens}
 use Rattle.idl_grammar.specs.declared.fault.Stop.{Stop}
@@ -20,7 +20,7 @@ pub data FirstFault (text : List ℕ) : DefFault → Type 0 where
 
 -- the enums and structs of a definition
 abbrev pub definition_of : Definition → List Named
-definition_of d = definition_in (nameds_of d.text.items d.named.items)
+definition_of d = definition_in (nameds_of (string_bytes d.text) d.named.items)
 
 -- why this is the answer for a text
 abbrev pub Answers : List ℕ → Result Definition DefFault → Type 0

@@ -1,22 +1,24 @@
 //! Definitions, and what refers to their types and fields.
-ghost use Rattle.std.specs.Prelude.{◌≡◌, ◌<◌, ◌^◌, true, vec_len};
+ghost use Rattle.std.specs.Prelude.{◌≡◌, ◌<◌, ◌^◌, true, vec_len, string_bytes};
 ghost use Rattle.std.specs.List.{list_any, list_all};
+ghost use Rattle.idl_tokens.specs.Tokens.{tokens};
+ghost use Rattle.idl_profile.specs.DefText.{DefTokens};
 ghost use Rattle.idl_fields.specs.View.{nameds_of};
-ghost use Rattle.idl_parse.specs.Meant.{definition_in, IsMeant};
 ghost use Rattle.idl_parse.specs.Drafts.{is_struct, has_few};
 
 use idl_fields::draft::{Expr, Field, Named};
 use idl_profile::Scalar;
+use std::string::String;
 
 /// A definition: the enums and structs that a text defines, in the order of the text. Typedefs are resolved, and fields stand by rising id.
 #[derive(Debug, Drop)]
 pub struct Definition {
-    pub(crate) text: Vec<u8>,
+    pub(crate) text: String,
     pub(crate) named: Vec<Named>,
     ghost rooted: { list_any is_struct named.items ≡ true },
     ghost few: { list_all has_few named.items ≡ true },
     ghost counted: { vec_len named < 2 ^ 32 },
-    ghost meant: { IsMeant (definition_in (nameds_of text.items named.items)) },
+    ghost meant: { ∥ DefTokens (tokens (string_bytes text)) (nameds_of (string_bytes text) named.items) ∥₁ },
 }
 
 /// The default of a field, as it is written.
@@ -28,7 +30,7 @@ pub enum DefaultRef<'a> {
     /// A number, also of an enum.
     Int(i64),
     /// What stands between the quotes.
-    Text(&'a [u8]),
+    Text(&'a str),
     /// `[]` or `{}`.
     Empty,
 }

@@ -1,9 +1,9 @@
 //! Reading a definition text.
-ghost use Rattle.std.specs.Prelude.{◌≡◌, ◌<◌, ◌^◌, ◌⊎◌, length, true, false, IfOk, IfErr, MatchBool, MatchResult};
+ghost use Rattle.std.specs.Prelude.{◌≡◌, ◌<◌, ◌^◌, ◌⊎◌, length, true, false, IfOk, IfErr, MatchResult};
 ghost use Rattle.idl_profile.specs.Types.{Named as NamedTree};
 ghost use Rattle.std.specs.List.{list_any, list_all};
-ghost use Rattle.std.specs.Str.{IsUtf8};
-ghost use Rattle.idl_profile.specs.DefText.{has_struct as has_struct_in};
+ghost use Rattle.idl_profile.specs.DefText.{has_struct as has_struct_in, DefTokens};
+ghost use Rattle.idl_tokens.specs.Tokens.{tokens};
 ghost use Rattle.idl_fields.specs.View.{nameds_of};
 ghost use Rattle.std.specs.Prelude.{List, ℕ};
 ghost use Rattle.idl_parse.specs.declared.fault.DefFault.{DefFault};
@@ -13,19 +13,10 @@ ghost use Rattle.idl_parse.specs.Parsed.{DefText, FirstFault, definition_of, def
 use crate::definition::Definition;
 use crate::fault::DefFault;
 use idl_definitions::read_definitions;
-use idl_fields::Scope;
 use idl_fields::draft::Named;
 use idl_tokens::split;
 use std::alloc::Global;
-
-fn is_utf8(text: &[u8]) -> bool
-    ensures { MatchBool result (IsUtf8 text.now) (IsUtf8 text.now → ⊥) }
-{
-    match str::from_utf8(text) {
-        Ok(_) => true,
-        Err(_) => false,
-    }
-}
+use std::string::String;
 
 /// Whether it is a struct.
 pub fn is_struct(one: &Named) -> bool
@@ -60,8 +51,8 @@ fn have_few(named: &[Named]) -> bool
 }
 
 // The definition of these enums and structs, if one is a struct.
-fn rooted(alloc: Global, text: &[u8], named: Vec<Named>) -> Result<Definition, DefFault>
-    requires { has_struct_in (nameds_of text.now named.items) ≡ true → DefText text.now (definition_in (nameds_of text.now named.items)) }
+fn rooted(alloc: Global, text: &str, named: Vec<Named>) -> Result<Definition, DefFault>
+    requires { has_struct_in (nameds_of text.now named.items) ≡ true → DefTokens (tokens text.now) (nameds_of text.now named.items) }
     ensures ok { IfOk result (λ d. (definition_of d ≡ definition_in (nameds_of text.now named.items)) × (has_struct_in (nameds_of text.now named.items) ≡ true)) }
     ensures err { IfErr result (λ e. (e ≡ DefFault.NoMemory) ⊎ ((e ≡ DefFault.NoRoot) × (has_struct_in (nameds_of text.now named.items) ≡ false))) }
 {
@@ -71,8 +62,18 @@ fn rooted(alloc: Global, text: &[u8], named: Vec<Named>) -> Result<Definition, D
     if !have_few(&named) || named.len() >= 0x1_0000_0000 {
         return Err(DefFault::NoMemory);
     }
-    let text = Vec::from_slice(alloc, text)?;
+    let text = String::from_str(alloc, text)?;
     Ok(Definition { text, named })
+}
+
+// Reads a text of characters.
+fn read_characters(alloc: Global, text: &str) -> Result<Definition, DefFault>
+    requires { length text.now < 2 ^ 31 }
+    ensures { Answers text.now result }
+{
+    let tokens = split(alloc, text)?;
+    let (scope, _) = read_definitions(alloc, text, &tokens)?;
+    rooted(alloc, text, scope.named)
 }
 
 // Reads a definition text.
@@ -80,19 +81,10 @@ fn read_text(alloc: Global, text: &[u8]) -> Result<Definition, DefFault>
     requires { length text.now < 2 ^ 31 }
     ensures { Answers text.now result }
 {
-    if !is_utf8(text) {
-        return Err(DefFault::NotUtf8);
+    match str::from_utf8(text) {
+        Ok(text) => read_characters(alloc, text),
+        Err(_) => Err(DefFault::NotUtf8),
     }
-    let tokens = split(alloc, text)?;
-    let (scope, _) = read_definitions(alloc, text, &tokens)?;
-    let Scope {
-        entries: _,
-        names: _,
-        named,
-        members: _,
-        sizes: _,
-    } = scope;
-    rooted(alloc, text, named)
 }
 
 /// Reads a definition text. It answers the definition exactly where the text means one, and else the first fault.

@@ -84,10 +84,10 @@ fn types_are_told(rt: HostRuntime) -> Result<(), Fail> {
         "enum E {A} struct S {1: i32 x} struct T {7: required S s 2: map<E, list<string>> m = {}}";
     let def = parse(alloc, text.as_bytes())?;
     let root = def.root();
-    assert_eq!(rt; root.name_bytes(), b"T".as_slice());
+    assert_eq!(rt; root.name(), "T");
     assert_eq!(rt; root.field_count(), 2);
     let m = root.field(2).ok_or("2 is a field")?;
-    assert_eq!(rt; m.name_bytes(), b"m".as_slice());
+    assert_eq!(rt; m.name(), "m");
     assert_eq!(rt; m.ty().kind(), TypeKind::Map);
     assert!(rt; matches!(m.default(), DefaultRef::Empty));
     let s = root.field_named("s").ok_or("s is a field")?;

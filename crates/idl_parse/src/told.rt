@@ -1,5 +1,5 @@
 //! The accessors of types and fields. None takes memory.
-ghost use Rattle.std.specs.Prelude.{◌≡◌, ◌<◌, ◌^◌, ◌⊎◌, List, [], Some, None, length, option_map, slice_get, find, IfSome, true};
+ghost use Rattle.std.specs.Prelude.{◌≡◌, ◌<◌, ◌^◌, ◌⊎◌, List, [], Some, None, length, option_map, slice_get, find, IfSome, true, string_bytes};
 ghost use Rattle.std.specs.Ordering.{int_eq};
 ghost use Rattle.std.specs.Str.{bytes_eq};
 ghost use Rattle.idl_profile.specs.Types.{TypeTree, kind_of, name_of, fields_of, scalar, flag};
@@ -10,9 +10,8 @@ ghost use Rattle.idl_parse.specs.Told.{told, told_at, told_field, told_default, 
 
 use crate::definition::{DefaultRef, Definition, FieldRef, Place, TypeRef};
 use idl_fields::draft::{Default, Expr, Field, Named};
-use idl_fields::same;
 use idl_profile::{Need, Scalar, TypeKind};
-use idl_tokens::bytes_at;
+use idl_tokens::text_at;
 
 // A type by its outermost part.
 fn place_of(ty: &Expr) -> Place<'_>
@@ -67,18 +66,18 @@ fn scalar_kind(s: Scalar) -> TypeKind
     }
 }
 
-fn named_name<'a>(def: &'a Definition, within: u32, n: u32) -> &'a [u8]
+fn named_name<'a>(def: &'a Definition, within: u32, n: u32) -> &'a str
     ensures { result.now ≡ name_of (at (visible def.now within) n) }
 {
     match named_at(def, within, n) {
-        Some(Named::Enum(name, _)) => bytes_at(&def.text, *name),
-        Some(Named::Struct(name, _)) => bytes_at(&def.text, *name),
-        None => &[],
+        Some(Named::Enum(name, _)) => text_at(&def.text, *name),
+        Some(Named::Struct(name, _)) => text_at(&def.text, *name),
+        None => "",
     }
 }
 
 fn named_fields<'a>(def: &'a Definition, within: u32, n: u32) -> &'a [Field]
-    ensures fields { fields_in def.now.text.items (visible def.now n) result.now ≡ fields_of (at (visible def.now within) n) }
+    ensures fields { fields_in (string_bytes def.now.text) (visible def.now n) result.now ≡ fields_of (at (visible def.now within) n) }
     ensures few { length result.now < 2 ^ 32 }
 {
     match named_at(def, within, n) {
@@ -102,13 +101,13 @@ impl<'a> TypeRef<'a> {
         }
     }
 
-    /// The name of an enum or a struct, in ASCII. No other type has one.
-    pub fn name_bytes(self) -> &'a [u8]
+    /// The name of an enum or a struct; of any other type the empty text.
+    pub fn name(self) -> &'a str
         ensures { result.now ≡ name_of (told self.entry) }
     {
         match self.place {
             Place::Named(n) => named_name(self.def, self.within, n),
-            Place::Scalar(_) | Place::List(_) | Place::Set(_) | Place::Map(_, _) => &[],
+            Place::Scalar(_) | Place::List(_) | Place::Set(_) | Place::Map(_, _) => "",
         }
     }
 
@@ -163,7 +162,7 @@ impl<'a> TypeRef<'a> {
 impl<'a> TypeRef<'a> {
     // The fields of a struct, and how many enums and structs their types may name.
     fn fields(self) -> (u32, &'a [Field])
-        ensures fields { fields_in self.entry.def.now.text.items (visible self.entry.def.now result.0) result.1.now ≡ fields_of (told self.entry) }
+        ensures fields { fields_in (string_bytes self.entry.def.now.text) (visible self.entry.def.now result.0) result.1.now ≡ fields_of (told self.entry) }
         ensures few { length result.1.now < 2 ^ 32 }
     {
         match self.place {
@@ -218,7 +217,7 @@ impl<'a> TypeRef<'a> {
         let def = self.def;
         let (within, fields) = self.fields();
         for field in fields {
-            if same(bytes_at(&def.text, field.name), name.as_bytes()) {
+            if text_at(&def.text, field.name) == name {
                 return Some(FieldRef { def, within, field });
             }
         }
@@ -234,11 +233,11 @@ impl<'a> FieldRef<'a> {
         self.field.id.id
     }
 
-    /// The field's name, in ASCII.
-    pub fn name_bytes(self) -> &'a [u8]
+    /// The field's name.
+    pub fn name(self) -> &'a str
         ensures { result.now ≡ (told_field self.entry).name }
     {
-        bytes_at(&self.def.text, self.field.name)
+        text_at(&self.def.text, self.field.name)
     }
 
     /// Whether the field has to be there.
@@ -267,7 +266,7 @@ impl<'a> FieldRef<'a> {
             Default::Without => DefaultRef::Without,
             Default::Flag(b) => DefaultRef::Flag(b),
             Default::Int(n) => DefaultRef::Int(n.value),
-            Default::Text(x) => DefaultRef::Text(bytes_at(&self.def.text, x)),
+            Default::Text(x) => DefaultRef::Text(text_at(&self.def.text, x)),
             Default::Empty => DefaultRef::Empty,
         }
     }

@@ -8,8 +8,7 @@ mod types;
 mod values;
 
 pub use laws::printed_text_means_the_definition;
-pub use printing::{print, print_text};
-pub use text::print_named;
+pub use printing::print;
 
 #[cfg(test)]
 mod tests;

@@ -1,5 +1,5 @@
 //! The text of enums and structs.
-ghost use Rattle.std.specs.Prelude.{◌≡◌, ◌++◌, OnOk, IfOk, ℕ, List, map};
+ghost use Rattle.std.specs.Prelude.{◌≡◌, ◌++◌, OnOk, IfOk, ℕ, List, map, string_bytes};
 ghost use Rattle.std.specs.List.{flat_map};
 ghost use Rattle.idl_parse.specs.Parsed.{definition_in};
 ghost use Rattle.idl_fields.specs.View.{nameds_of, named_of, field_of, member_of};
@@ -8,11 +8,12 @@ ghost use Rattle.idl_print.specs.Written.{field_text, named_text};
 
 use crate::values::{push_field, push_member};
 use idl_fields::draft::{Field, Member, Named};
-use idl_tokens::bytes_at;
+use idl_tokens::text_at;
 use std::alloc::{AllocError, Global};
+use std::string::String;
 
-fn push_members(out: &mut Vec<u8>, text: &[u8], members: &[Member]) -> Result<(), AllocError>
-    ensures { OnOk result (out.new.items ≡ out.old.items ++ flat_map member_text (map (member_of text.now) members.now)) }
+fn push_members(out: &mut String, text: &str, members: &[Member]) -> Result<(), AllocError>
+    ensures { OnOk result (string_bytes out.new ≡ string_bytes out.old ++ flat_map member_text (map (member_of text.now) members.now)) }
 {
     for member in members {
         push_member(out, text, member)?;
@@ -21,12 +22,12 @@ fn push_members(out: &mut Vec<u8>, text: &[u8], members: &[Member]) -> Result<()
 }
 
 fn push_fields(
-    out: &mut Vec<u8>,
-    text: &[u8],
+    out: &mut String,
+    text: &str,
     named: &[Named],
     fields: &[Field],
 ) -> Result<(), AllocError>
-    ensures { OnOk result (out.new.items ≡ out.old.items ++ flat_map (field_text (nameds_of text.now named.now)) (map (field_of text.now) fields.now)) }
+    ensures { OnOk result (string_bytes out.new ≡ string_bytes out.old ++ flat_map (field_text (nameds_of text.now named.now)) (map (field_of text.now) fields.now)) }
 {
     for field in fields {
         push_field(out, text, named, field)?;
@@ -35,42 +36,37 @@ fn push_fields(
 }
 
 // Writes an enum or a struct.
-fn push_named(
-    out: &mut Vec<u8>,
-    text: &[u8],
-    named: &[Named],
-    one: &Named,
-) -> Result<(), AllocError>
-    ensures { OnOk result (out.new.items ≡ out.old.items ++ named_text (nameds_of text.now named.now) (named_of text.now one.now)) }
+fn push_named(out: &mut String, text: &str, named: &[Named], one: &Named) -> Result<(), AllocError>
+    ensures { OnOk result (string_bytes out.new ≡ string_bytes out.old ++ named_text (nameds_of text.now named.now) (named_of text.now one.now)) }
 {
     match one {
         Named::Enum(name, members) => {
-            out.extend_from_slice(b"enum ")?;
-            out.extend_from_slice(bytes_at(text, *name))?;
-            out.extend_from_slice(b" {\n")?;
+            out.push_str("enum ")?;
+            out.push_str(text_at(text, *name))?;
+            out.push_str(" {\n")?;
             push_members(out, text, members)?;
-            out.extend_from_slice(b"}\n")
+            out.push_str("}\n")
         }
         Named::Struct(name, fields) => {
-            out.extend_from_slice(b"struct ")?;
-            out.extend_from_slice(bytes_at(text, *name))?;
-            out.extend_from_slice(b" {\n")?;
+            out.push_str("struct ")?;
+            out.push_str(text_at(text, *name))?;
+            out.push_str(" {\n")?;
             push_fields(out, text, named, fields)?;
-            out.extend_from_slice(b"}\n")
+            out.push_str("}\n")
         }
     }
 }
 
-/// The bytes of the text of these enums and structs, whose names and texts stand in the text that they were read from.
+/// The text of these enums and structs, whose names and texts stand in the text that they were read from.
 ///
 /// # Errors
 ///
 /// `AllocError` where memory runs out, and nowhere else.
 #[tactic(auto, using(crate::proofs::AnyText::still_more))]
-pub fn print_named(alloc: Global, text: &[u8], named: &[Named]) -> Result<Vec<u8>, AllocError>
-    ensures { IfOk result (λ out. out.items ≡ printed (definition_in (nameds_of text.now named.now))) }
+pub fn print_named(alloc: Global, text: &str, named: &[Named]) -> Result<String, AllocError>
+    ensures { IfOk result (λ out. string_bytes out ≡ printed (definition_in (nameds_of text.now named.now))) }
 {
-    let mut out = Vec::new(alloc);
+    let mut out = String::new(alloc);
     for (i, one) in named.iter().enumerate() {
         push_named(&mut out, text, &named[..i], one)?;
     }

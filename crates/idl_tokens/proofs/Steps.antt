@@ -1,31 +1,18 @@
 -- One token of a text.
-use Rattle.std.proofs.Common.{◌≡◌, ℕ, zero, suc, ◌+◌, ◌-◌, ◌<◌, ◌≤◌, Bool, true, false, nat_le, ◌==◌, cond, if◌then◌else◌, List, [], ◌∷◌, ◌++◌, length, take, drop, map, refl, sym, ap, ◌∙◌, arith, append_assoc}
-use Rattle.std.specs.List.{count_by, sum_by}
+use Rattle.std.proofs.Common.{◌≡◌, ℕ, zero, suc, ◌+◌, ◌≤◌, Bool, true, false, ◌==◌, cond, if◌then◌else◌, List, [], ◌∷◌, ◌++◌, length, take, drop, refl, sym, ap, ◌∙◌, subst, arith, append_assoc}
+use Rattle.std.specs.List.{count_by}
 use Rattle.std.proofs.lemmas.List.Sums.{sum_by-cons}
-use Rattle.std.proofs.lemmas.Bool.Decides.{nat_tests}
 use Rattle.std.proofs.lemmas.List.{drop-drop}
+use Rattle.std.specs.Str.{IsUtf8}
+use Rattle.idl_tokens.proofs.Cuts.{FrontCuts, front-cuts, word-is, literal-is}
 use Rattle.idl_tokens.specs.declared.token.Placed.{Placed}
 use Rattle.idl_tokens.specs.declared.fronts.Piece.{Piece}
 use Rattle.idl_tokens.specs.declared.fronts.Piece.TheVariants as p
-use Rattle.idl_tokens.specs.Tokens.{Tok, word, literal, Front, front, more, placed, spot, Toks, line_after, tokens_behind, tokens}
-use Rattle.idl_tokens.specs.Spans.{span, bytes_at, spot_of, toks, piece_of, token_at, placed_if, is_wrong_piece}
+use Rattle.idl_tokens.specs.Tokens.{word, literal, Front, front, more, placed, spot, Toks, line_after, tokens_behind, tokens}
+use Rattle.idl_tokens.specs.Spans.{spot_of, toks, piece_of, token_at, placed_if, is_wrong_piece}
 
 abbrev pub newlines : List ℕ → ℕ
 newlines cs = count_by (λ c. c == 10) cs
-
-le_test : (m n : ℕ) → m ≤ n → nat_le m n ≡ true
-le_test m n h = grind (arith, nat_tests)
-
-pub bytes-are : (text : List ℕ) (at n : ℕ) → at + n ≤ length text → bytes_at text (span at n) ≡ take n (drop at text)
-bytes-are text at n h =
-    let k : at + n - at ≡ n = omega arith in
-    rw (le_test (at + n) (length text) h) (ap (λ (z : ℕ). take z (drop at text)) k)
-
-drop-tail : (text : List ℕ) (at c : ℕ) (rest : List ℕ) → drop at text ≡ c ∷ rest → drop (at + 1) text ≡ rest
-drop-tail [] zero c rest e = absurd cc
-drop-tail [] (suc at) c rest e = absurd cc
-drop-tail (x ∷ text) zero c rest e = cc
-drop-tail (x ∷ text) (suc at) c rest e = let k : suc at + 1 ≡ suc (at + 1) = omega arith in rw k (drop-tail text at c rest e)
 
 pub toks-append : (text : List ℕ) (xs ys : List Placed) → toks text (xs ++ ys) ≡ toks text xs ++ toks text ys
 toks-append text [] ys = refl
@@ -45,24 +32,20 @@ passing (suc n) line [] h = absurd (omega arith)
 passing (suc n) line (c ∷ text) h =
     passing n (line_after c line) text (omega arith) ∙ ap (λ (z : ℕ). tokens_behind 0 z (drop n text)) (lines-are c line (take n text))
 
-word-is : (text : List ℕ) (at c m : ℕ) (rest : List ℕ) → drop at text ≡ c ∷ rest → at + suc (length rest) ≡ length text → m ≤ length rest → bytes_at text (span at (m + 1)) ≡ c ∷ take m rest
-word-is text at c m rest e h le =
-    let k : m + 1 ≡ suc m = omega arith in
-    bytes-are text at (m + 1) (omega arith) ∙ rw (e, k) refl
-
-literal-is : (text : List ℕ) (at c m : ℕ) (rest : List ℕ) → drop at text ≡ c ∷ rest → at + suc (length rest) ≡ length text → m ≤ length rest → bytes_at text (span (at + 1) (m - 1)) ≡ take (m - 1) rest
-literal-is text at c m rest e h le = bytes-are text (at + 1) (m - 1) (omega arith) ∙ ap (λ z. take (m - 1) z) (drop-tail text at c rest e)
-
-module _ (text : List ℕ) (at line c m : ℕ) (rest : List ℕ) (e : drop at text ≡ c ∷ rest) (h : at + suc (length rest) ≡ length text) (le : m ≤ length rest) where
+module _ (text : List ℕ) (at line c m : ℕ) (rest : List ℕ) (u : IsUtf8 text) (e : drop at text ≡ c ∷ rest) (h : at + suc (length rest) ≡ length text) (le : m ≤ length rest) where
   abbrev behind : Front → Toks
   behind f = placed f line (tokens_behind (more f) (line_after c line) rest)
 
   pub keeps : (q : Piece) → is_wrong_piece q ≡ false → piece_of c rest q m ≡ front c rest
       → toks text (placed_if (token_at at q m) line) ++ tokens_behind m (line_after c line) rest ≡ tokens_behind 0 line (c ∷ rest)
   keeps p.Blank w is = ap behind is
-  keeps p.Word w is = ap (λ (z : List ℕ). spot (word z) line ∷ tokens_behind m (line_after c line) rest) (word-is text at c m rest e h le) ∙ ap behind is
+  keeps p.Word w is =
+      let cuts = subst (FrontCuts c rest) (sym is) (front-cuts c rest) in
+      ap (λ (z : List ℕ). spot (word z) line ∷ tokens_behind m (line_after c line) rest) (word-is text at c m rest u e h le cuts.0 cuts.1) ∙ ap behind is
   keeps (p.Number n) w is = ap behind is
-  keeps p.Literal w is = ap (λ (z : List ℕ). spot (literal z) line ∷ tokens_behind m (line_after c line) rest) (literal-is text at c m rest e h le) ∙ ap behind is
+  keeps p.Literal w is =
+      let cuts = subst (FrontCuts c rest) (sym is) (front-cuts c rest) in
+      ap (λ (z : List ℕ). spot (literal z) line ∷ tokens_behind m (line_after c line) rest) (literal-is text at c m rest u e h le cuts.0 cuts.2 cuts.1) ∙ ap behind is
   keeps (p.Mark x) w is = ap behind is
   keeps p.Wrong w is = absurd cc
 
@@ -81,7 +64,7 @@ pub next-place : (text left after : List ℕ) (at m : ℕ) → left ≡ drop at 
 next-place text left after at m place is = is ∙ ap (λ (z : List ℕ). drop (m + 1) z) place ∙ drop-drop (m + 1) at text
 
 -- a turn of the loop
-module _ (text : List ℕ) (found new : List Placed) (at line : ℕ) (left : List ℕ) (same : toks text found ++ tokens_behind 0 line left ≡ tokens text) (place : left ≡ drop at text) (count : at + length left ≡ length text)
+module _ (text : List ℕ) (u : IsUtf8 text) (found new : List Placed) (at line : ℕ) (left : List ℕ) (same : toks text found ++ tokens_behind 0 line left ≡ tokens text) (place : left ≡ drop at text) (count : at + length left ≡ length text)
     (c m : ℕ) (rest : List ℕ) (q : Piece) (e : left ≡ c ∷ rest) (le : m ≤ length rest) (is : piece_of c rest q m ≡ front c rest) (more_found : new ≡ found ++ placed_if (token_at at q m) line) where
   here : drop at text ≡ c ∷ rest
   here = sym place ∙ e
@@ -99,10 +82,10 @@ module _ (text : List ℕ) (found new : List Placed) (at line : ℕ) (left : Lis
   turn-keeps w =
       ap (λ (z : Toks). z ++ tokens_behind 0 (line + newlines (take (m + 1) left)) (drop (m + 1) left)) all
       ∙ assoc (toks text found) (toks text (placed_if (token_at at q m) line)) (tokens_behind 0 (line + newlines (take (m + 1) left)) (drop (m + 1) left)) ∙ ap (λ (z : Toks). toks text found ++ (toks text (placed_if (token_at at q m) line) ++ z)) behind-is
-      ∙ ap (λ (z : Toks). toks text found ++ z) (keeps text at line c m rest here room le q w is)
+      ∙ ap (λ (z : Toks). toks text found ++ z) (keeps text at line c m rest u here room le q w is)
       ∙ ap (λ (z : List ℕ). toks text found ++ tokens_behind 0 line z) (sym e) ∙ same
 
   pub turn-stops : is_wrong_piece q ≡ true → toks text new ≡ tokens text
   turn-stops w =
-      all ∙ ap (λ (z : Toks). toks text found ++ z) (stops text at line c m rest here room le q w is)
+      all ∙ ap (λ (z : Toks). toks text found ++ z) (stops text at line c m rest u here room le q w is)
       ∙ ap (λ (z : List ℕ). toks text found ++ tokens_behind 0 line z) (sym e) ∙ same

@@ -1,5 +1,5 @@
 -- The tokens of a text. At each place the longest token is taken.
-use Rattle.std.specs.Prelude.{ℕ, zero, suc, ◌+◌, ◌-◌, ℤ, Bool, true, false, ◌==◌, ◌&&◌, ◌||◌, nat_lt, if◌then◌else◌, List, [], ◌∷◌, length, take, drop, Option, Some, None}
+use Rattle.std.specs.Prelude.{ℕ, zero, suc, ◌+◌, ◌-◌, ℤ, Bool, true, false, ◌==◌, ◌&&◌, ◌||◌, nat_lt, if◌then◌else◌, List, [], ◌∷◌, take, drop, Option, Some, None}
 use Rattle.std.specs.List.{prefix_len}
 use Rattle.idl_tokens.specs.Characters.{is_space, is_digit, is_word_start, is_word_character, is_mark, is_in_line, is_in_literal, begins_with}
 use Rattle.idl_tokens.specs.Numbers.{Magnitude, magnitude, in_64_bits}

@@ -65,14 +65,14 @@ fn is_wrong(found: Front) -> bool
 }
 
 /// The tokens of a text. The last is `Finish` or `Bad`, and there is no other of these.
-pub fn split(alloc: Global, text: &[u8]) -> Result<Vec<Placed>, AllocError>
+pub fn split(alloc: Global, text: &str) -> Result<Vec<Placed>, AllocError>
     requires { length text.now < 2 ^ 31 }
     ensures { IfOk result (λ found. toks text.now found.items ≡ tokens_in text.now) }
 {
     let mut tokens: Vec<Placed> = Vec::new(alloc);
     let mut at: usize = 0;
     let mut line: u32 = 1;
-    let mut left = text;
+    let mut left = text.as_bytes();
     'tokens: while let Some((first, rest)) = left.split_first() {
         let found = front_at(*first, rest, left);
         keep(&mut tokens, at, line, found)?;

@@ -8,7 +8,7 @@ use std::test::Fail;
 fn listed(alloc: Global, text: &str) -> Result<String, Fail> {
     let mut out = String::new(alloc);
     if text.len() < 1000 {
-        for placed in &split(alloc, text.as_bytes())? {
+        for placed in &split(alloc, text)? {
             match placed.token {
                 Token::Word(w) => write!(out, "word {}+{} ", w.start, w.len)?,
                 Token::Number(Some(n)) => write!(out, "number {n} ")?,

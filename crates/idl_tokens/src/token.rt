@@ -1,8 +1,8 @@
 //! Tokens and where they stand in a text.
 ghost use Rattle.std.specs.Prelude.{◌≡◌};
-ghost use Rattle.idl_tokens.specs.Spans.{bytes_at as bytes_at_span};
+ghost use Rattle.idl_tokens.specs.Spans.{text_at as text_at_span};
 
-/// Where some bytes of a text stand: the first of them, and their number.
+/// Where a part of a text stands: its first byte, and the number of its bytes.
 #[derive(Clone, Copy, Debug)]
 pub struct Span {
     pub start: u32,
@@ -31,15 +31,11 @@ pub struct Placed {
     pub line: u32,
 }
 
-/// The bytes of the text at a span, none where the text ends before.
-pub fn bytes_at(text: &[u8], span: Span) -> &[u8]
-    ensures { result.now ≡ bytes_at_span text.now span }
+/// The part of the text at a span, none where the text ends before, or where a character would be cut.
+pub fn text_at(text: &str, span: Span) -> &str
+    ensures { result.now ≡ text_at_span text.now span }
 {
     let start = span.start as usize;
     let end = start + span.len as usize;
-    if end <= text.len() {
-        &text[start..end]
-    } else {
-        &[]
-    }
+    text.get(start..end).unwrap_or("")
 }

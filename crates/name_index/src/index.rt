@@ -5,12 +5,13 @@ ghost use Rattle.name_index.specs.Names.{Indexes, first_place, is_among};
 
 use std::alloc::{AllocError, Global};
 use std::collections::HashMap;
+use std::string::String;
 
-/// The places of a list of names, found by hash. The names are bytes of any kind, and may repeat.
+/// The places of a list of names, found by hash. A name may repeat.
 #[derive(Debug, Drop)]
 pub struct NameIndex {
     // The first place of each name.
-    places: HashMap<Vec<u8>, u32>,
+    places: HashMap<String, u32>,
     // How many names there are.
     count: u32,
 }
@@ -27,21 +28,21 @@ impl NameIndex {
     }
 
     /// The place of the first name that is this one.
-    pub fn place_of(&self, name: &[u8]) -> Option<u32>
+    pub fn place_of(&self, name: &str) -> Option<u32>
         ensures { (names : List (List ℕ)) → Indexes self.now names → result ≡ first_place names name.now }
     {
         self.places.get(name).copied()
     }
 
     /// Whether this is one of the names.
-    pub fn contains(&self, name: &[u8]) -> bool
+    pub fn contains(&self, name: &str) -> bool
         ensures { (names : List (List ℕ)) → Indexes self.now names → result ≡ is_among names name.now }
     {
         self.place_of(name).is_some()
     }
 
     /// Adds a name at the end, which the index copies. It refuses for want of memory, and from 2^32 - 1 names on.
-    pub fn push(&mut self, alloc: Global, name: &[u8]) -> Result<(), AllocError>
+    pub fn push(&mut self, alloc: Global, name: &str) -> Result<(), AllocError>
         ensures grows { (names : List (List ℕ)) → Indexes self.old names → OnOk result (Indexes self.new (names ++ name.now ∷ [])) }
         ensures refused { (names : List (List ℕ)) → Indexes self.old names → OnErr result (Indexes self.new names) }
     {
@@ -49,7 +50,7 @@ impl NameIndex {
             return Err(AllocError);
         };
         if self.places.get(name).is_none() {
-            let key = Vec::from_slice(alloc, name)?;
+            let key = String::from_str(alloc, name)?;
             self.places.insert(key, self.count)?;
         }
         self.count = count;

@@ -1,6 +1,6 @@
 use Rattle.std.proofs.Common.{length, ap, sym, ◌∙◌}
 use Rattle.std.proofs.lemmas.List.{length-map}
-use Rattle.idl_tokens.specs.Spans.{bytes_at}
+use Rattle.idl_tokens.specs.Spans.{text_at}
 use Rattle.idl_profile.specs.Meaning as m
 use Rattle.idl_profile.specs.Measures.{trees}
 use Rattle.idl_fields.specs.declared.draft.Expr.TheVariants as v
@@ -17,5 +17,5 @@ returns-clause-same c text =
 
 pub returns-clause-sized : goal.returns-clause-sized
 returns-clause-sized c text h =
-    let k = c.size_of_struct-size.ensures text (bytes_at text c.args.name) (trees (nameds_of text c.args.scope.now.named.items)) (c.deref-2.ensures.value ∙ h.sizes) in
+    let k = c.size_of_struct-size.ensures text (text_at text c.args.name) (trees (nameds_of text c.args.scope.now.named.items)) (c.deref-2.ensures.value ∙ h.sizes) in
     c.add_entry.ensures.sized text (c.in_ok-add_named.ensures.sized text h (rw c.deref-3.ensures.value at k))

@@ -1,6 +1,8 @@
-use Rattle.std.proofs.Common.{inr, ap, subst, sym, ◌∙◌, refl, List, ℕ, true, false}
+use Rattle.std.proofs.Common.{inr, ap, sym, subst, ◌∙◌, refl, List, ℕ, true, false}
+use Rattle.idl_tokens.specs.Tokens.{tokens}
+use Rattle.idl_profile.specs.DefText.{DefTokens}
 use Rattle.idl_fields.specs.View.{nameds_of}
-use Rattle.idl_parse.specs.Parsed.{definition_in, DefText}
+use Rattle.idl_parse.specs.Parsed.{definition_in}
 use Rattle.idl_parse.proofs.Answering.{struct-test}
 use Rattle.idl_parse.proofs.parsing.rooted.Goals as goal
 
@@ -12,7 +14,7 @@ returns-then-not-has_struct-clause-err c =
 pub returns-clause-ok : goal.returns-clause-ok
 returns-clause-ok c =
     let h = c.has_struct.ensures in (
-      ap (λ (z : List ℕ). definition_in (nameds_of z c.args.named.items)) c.in_ok-text.ensures.items,
+      ap (λ (z : List ℕ). definition_in (nameds_of z c.args.named.items)) c.in_ok-text.ensures.ok,
       struct-test c.args.text.now c.args.named.items c.has_struct.result true (rw c.deref.ensures.value at h) c.if-not-has_struct.false,
     )
 
@@ -21,7 +23,7 @@ pub invariant_of-result-clause-meant : goal.invariant_of-result-clause-meant
 invariant_of-result-clause-meant c =
     let h = c.has_struct.ensures in
     let means = c.requires (struct-test c.args.text.now c.args.named.items c.has_struct.result true (rw c.deref.ensures.value at h) c.if-not-has_struct.false) in
-    ∣ (c.args.text.now, subst (λ (z : List ℕ). DefText c.args.text.now (definition_in (nameds_of z c.args.named.items))) (sym c.in_ok-text.ensures.items) means) ∣₁
+    ∣ subst (λ (z : List ℕ). DefTokens (tokens z) (nameds_of z c.args.named.items)) (sym c.in_ok-text.ensures.ok) means ∣₁
 
 pub invariant_of-result-clause-few : goal.invariant_of-result-clause-few
 invariant_of-result-clause-few c = let h = c.have_few.ensures in sym (rw c.deref-2.ensures.value at h) ∙ c.if-not-have_few.false

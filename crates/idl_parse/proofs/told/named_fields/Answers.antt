@@ -1,3 +1,4 @@
+use Rattle.std.specs.Prelude.{string_bytes}
 use Rattle.std.proofs.Common.{ap, sym, ◌∙◌}
 use Rattle.idl_profile.specs.Types.{fields_of}
 use Rattle.idl_parse.specs.Told.{fields_in, visible}
@@ -9,4 +10,4 @@ returns-in-Some-Struct-clause-fields c =
     let d = c.args.def.now in
     let s = c.in-Some-Struct.ensures.stands in
     let h = rw c.in-Some-Struct.field-0-is at s in
-    ap (fields_in d.text.items (visible d c.args.n)) c.as_slice.ensures.value ∙ fields-listed d.text.items (visible d c.args.n) c.in-Some-Struct.fields.items ∙ sym (ap fields_of h)
+    ap (fields_in (string_bytes d.text) (visible d c.args.n)) c.as_slice.ensures.value ∙ fields-listed (string_bytes d.text) (visible d c.args.n) c.in-Some-Struct.fields.items ∙ sym (ap fields_of h)

@@ -1,15 +1,11 @@
-use Rattle.std.proofs.Common.{sym, subst}
 use Rattle.std.specs.Prelude.{string_bytes}
 use Rattle.idl_fields.specs.View.{nameds_of}
-use Rattle.idl_parse.specs.Meant.{definition_in, IsMeant}
+use Rattle.idl_parse.specs.Meant.{definition_in}
 use Rattle.idl_parse.specs.Parsed.{definition_of}
 use Rattle.idl_print.proofs.PrintedAnswer.{means_it}
 use Rattle.idl_print.proofs.printing.print.Goals as goal
 
-pub print_text-requires : goal.print_text-requires
-print_text-requires c = subst IsMeant (sym c.parts.ensures.is) c.parts.ensures.meant
-
 -- the text means the definition
 pub returns-clause-means : goal.returns-clause-means
 returns-clause-means c =
-    means_it string_bytes c.print_text.result (definition_of c.args.def.now) (definition_in (nameds_of c.parts.result.0.now c.parts.result.1.now)) c.parts.ensures.is c.print_text.ensures
+    means_it string_bytes c.print_named.result c.parts.result.0.now (definition_of c.args.def.now) (definition_in (nameds_of c.parts.result.0.now c.parts.result.1.now)) c.parts.ensures.means c.parts.ensures.is c.print_named.ensures

@@ -1,3 +1,4 @@
+use Rattle.std.specs.Prelude.{string_bytes}
 use Rattle.std.proofs.Common.{◌≡◌, ◌++◌}
 use Rattle.idl_fields.specs.View.{nameds_of, field_of}
 use Rattle.idl_print.specs.Written.{field_text}
@@ -6,4 +7,4 @@ use Rattle.idl_print.proofs.text.push_fields.Given as goal
 
 abbrev pub invariant-loop-field : goal.invariant-loop-field
 invariant-loop-field l =
-    l.out.items ++ left (field_text (nameds_of l.text l.named)) (field_of l.text) l.field-index l.fields ≡ l.initial.out.items ++ left (field_text (nameds_of l.text l.named)) (field_of l.text) 0 l.fields
+    string_bytes l.out ++ left (field_text (nameds_of l.text l.named)) (field_of l.text) l.field-index l.fields ≡ string_bytes l.initial.out ++ left (field_text (nameds_of l.text l.named)) (field_of l.text) 0 l.fields

@@ -1,3 +1,4 @@
+use Rattle.std.specs.Prelude.{string_bytes}
 use Rattle.std.proofs.Common.{◌≡◌, ◌∙◌, ap, sym, length}
 use Rattle.idl_profile.specs.Types.{kind_of, root_of}
 use Rattle.idl_profile.specs.Measures.{at}
@@ -10,12 +11,12 @@ pub returns-clause-tree : goal.returns-clause-tree
 returns-clause-tree c =
     let d = c.args.self.now in
     let p = c.last_place.ensures in
-    root-told d.text.items d.named.items c.len.result c.last_place.result (c.len.ensures ∙ sym c.deref.ensures.len ∙ ap length c.deref.ensures.value) (rw c.deref.ensures.value at p)
+    root-told (string_bytes d.text) d.named.items c.len.result c.last_place.result (c.len.ensures ∙ sym c.deref.ensures.len ∙ ap length c.deref.ensures.value) (rw c.deref.ensures.value at p)
 
 pub returns-clause-kind : goal.returns-clause-kind
 returns-clause-kind c =
     let d = c.args.self.now in
     let p = c.last_place.ensures in
     let t : at (visible d c.len.result) c.last_place.result ≡ root_of (definition_of d) =
-    root-told d.text.items d.named.items c.len.result c.last_place.result (c.len.ensures ∙ sym c.deref.ensures.len ∙ ap length c.deref.ensures.value) (rw c.deref.ensures.value at p) in
-    ap kind_of t ∙ root-kind d.text.items d.named.items d.rooted
+    root-told (string_bytes d.text) d.named.items c.len.result c.last_place.result (c.len.ensures ∙ sym c.deref.ensures.len ∙ ap length c.deref.ensures.value) (rw c.deref.ensures.value at p) in
+    ap kind_of t ∙ root-kind (string_bytes d.text) d.named.items d.rooted

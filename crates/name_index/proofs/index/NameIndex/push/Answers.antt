@@ -11,7 +11,7 @@ returns-clause-grows c names h =
     elim c.if-is_none.branch [
       | then-is_none+in_ok-key+in_ok-insert w ↦
           let none : first_place names c.args.name.now ≡ None = grind (arith, common_steps, c.get.ensures.value, h.places c.args.name.now) in
-          record { count = grind (arith, common_steps); places = λ q. rw w.self-is (entered w.in_ok-key.key c.args.self.now.places w.insert.new.self names c.args.name.now _ w.in_ok-key.ensures.items h.count h.places none w.in_ok-insert.ensures.updates q) }
+          record { count = grind (arith, common_steps); places = λ q. rw w.self-is (entered w.in_ok-key.key c.args.self.now.places w.insert.new.self names c.args.name.now _ w.in_ok-key.ensures.ok h.count h.places none w.in_ok-insert.ensures.updates q) }
       | else-is_none w ↦
           let some : is_some (first_place names c.args.name.now) ≡ true = grind (arith, common_steps, c.get.ensures.value, h.places c.args.name.now) in
           record { count = grind (arith, common_steps); places = λ q. rw w.self-is (h.places q ∙ stood names c.args.name.now some q) }

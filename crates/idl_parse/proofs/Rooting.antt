@@ -14,7 +14,7 @@ use Rattle.idl_parse.specs.Roots.{last_place}
 use Rattle.idl_parse.specs.Parsed.{nameds}
 use Rattle.idl_parse.proofs.Standing.{grown, at_front, at_last, at_none}
 
-nameds-append : (ts us : List TypeTree) → nameds (ts ++ us) ≡ nameds ts ++ nameds us
+pub nameds-append : (ts us : List TypeTree) → nameds (ts ++ us) ≡ nameds ts ++ nameds us
 nameds-append [] us = refl
 nameds-append (named x ∷ ts) us = ap (λ (z : List types.Named). x ∷ z) (nameds-append ts us)
 nameds-append (scalar s ∷ ts) us = nameds-append ts us

@@ -14,7 +14,8 @@ use Rattle.idl_parse.specs.Parsed.{nameds, definition_in}
 use Rattle.idl_print.specs.Printed as p
 use Rattle.idl_print.specs.Printed.{newline, need_text, member_text}
 use Rattle.idl_print.specs.Written.{name_at, type_text, empty_text, default_text, field_text, named_text, written_behind}
-use Rattle.idl_print.proofs.SameText.{scalar-same, scalar-empty, nameds-append, name-same}
+use Rattle.idl_parse.proofs.Rooting.{nameds-append}
+use Rattle.idl_print.proofs.SameText.{scalar-same, scalar-empty, name-same}
 
 -- the trees are those of the enums and structs, and beyond them there is a bool
 abbrev Stand : List m.Named → List TypeTree → Type 0

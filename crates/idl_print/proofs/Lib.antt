@@ -1,3 +1,4 @@
+pub mod Lists
 pub mod PrintedTokens
 pub mod Pieces
 pub mod Numbers

@@ -8,7 +8,8 @@ use Rattle.std.proofs.lemmas.Bool.Decides.{nat_tests}
 use Rattle.idl_tokens.specs.Characters.{is_space, is_digit, is_hex_digit, is_word_start, is_word_character, is_in_line}
 use Rattle.idl_tokens.specs.Numbers.{digit_value, value_behind, value, hex_len, make_magnitude, magnitude, in_64_bits}
 use Rattle.idl_tokens.specs.Tokens.{behind_sign, unsigned_number, token, number, front, spot, Toks, tokens_behind}
-use Rattle.idl_print.proofs.Pieces.{Every, Apart, front-len, front-taken, every-append, every-map, passed, same_line}
+use Rattle.idl_print.proofs.Lists.{front-taken}
+use Rattle.idl_print.proofs.Pieces.{Every, Apart, front-len, every-append, every-map, passed, same_line}
 
 -- the numbers of 64 bits
 abbrev pub Is64 : ℤ → Type 0

@@ -1,7 +1,8 @@
 -- The tokens of pieces of a printed text before its rest.
-use Rattle.std.proofs.Common.{append_assoc, length-append, ◌⊎◌, inl, inr, ◌≡◌, ℕ, suc, ◌+◌, Bool, true, false, ◌==◌, ◌||◌, List, [], ◌∷◌, ◌++◌, length, take, drop, refl, sym, ap, ◌∙◌, arith}
+use Rattle.std.proofs.Common.{append_assoc, length-append, ◌⊎◌, inl, inr, ◌≡◌, ℕ, suc, ◌+◌, Bool, true, false, ◌==◌, ◌||◌, List, [], ◌∷◌, ◌++◌, length, refl, sym, ap, ◌∙◌, arith}
 use Rattle.std.specs.List.{prefix_len, list_any}
 use Rattle.std.specs.Str.{IsUtf8}
+use Rattle.idl_print.proofs.Lists.{front-taken, front-dropped, neither}
 use Rattle.idl_print.specs.Printed.{literal_text}
 use Rattle.std.proofs.lemmas.Bool.Decides.{nat_tests}
 use Rattle.idl_tokens.specs.Characters.{is_space, is_word_start, is_word_character, is_in_line, is_in_literal}
@@ -20,14 +21,6 @@ Apart (c ∷ cs) = is_word_character c ≡ false
 pub front-len : (p : ℕ → Bool) (w rest : List ℕ) → Every p w → prefix_len p rest ≡ 0 → prefix_len p (w ++ rest) ≡ length w
 front-len p [] rest h e = e
 front-len p (c ∷ w) rest h e = let k : 1 + length w ≡ suc (length w) = omega arith in rw (h.0, front-len p w rest h.1 e) k
-
-pub front-taken : (w rest : List ℕ) → take (length w) (w ++ rest) ≡ w
-front-taken [] rest = refl
-front-taken (c ∷ w) rest = ap (λ (z : List ℕ). c ∷ z) (front-taken w rest)
-
-pub front-dropped : (w rest : List ℕ) → drop (length w) (w ++ rest) ≡ rest
-front-dropped [] rest = refl
-front-dropped (c ∷ w) rest = front-dropped w rest
 
 pub same_line : (c l : ℕ) → is_in_line c ≡ true → line_after c l ≡ l
 same_line c l h = grind (arith, nat_tests)
@@ -126,10 +119,6 @@ with_34 : (x : List ℕ) → Every (is_in_literal 39) x → list_any (λ c. c ==
 with_34 [] h e = tt
 with_34 (c ∷ x) h e = let a = neither (c == 34) (list_any (λ d. d == 34) x) e in (both c h.0 a.0, with_34 x h.1 a.1)
   where
-    neither : (p q : Bool) → (p || q) ≡ false → (p ≡ false) × (q ≡ false)
-    neither true q e = absurd cc
-    neither false q e = (refl, e)
-
     both : (c : ℕ) → is_in_literal 39 c ≡ true → (c == 34) ≡ false → is_in_literal 34 c ≡ true
     both c h e = grind (arith, nat_tests)
 

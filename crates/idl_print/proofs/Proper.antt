@@ -1,5 +1,5 @@
 -- Definitions that can be printed: what holds of each that some text means.
-use Rattle.std.proofs.Common.{◌≡◌, ◌≢◌, ℕ, Bool, true, false, ◌==◌, ◌&&◌, ◌||◌, List, [], ◌∷◌, ◌++◌, Some, Ok, refl, ap, ◌∙◌}
+use Rattle.std.proofs.Common.{◌≡◌, ◌≢◌, ℕ, Bool, true, false, ◌==◌, ◌&&◌, List, [], ◌∷◌, ◌++◌, Some, Ok, refl, ap, ◌∙◌}
 use Rattle.std.specs.Prelude.{ℤ, pos, int_le, not, slice_get, map}
 use Rattle.std.specs.List.{list_any}
 use Rattle.std.specs.Ordering.{int_eq}
@@ -11,6 +11,7 @@ use Rattle.idl_profile.specs.Meaning as m
 use Rattle.idl_profile.specs.Types as types
 use Rattle.idl_profile.specs.Judged.{yes, one_of, keywords, is_name, has_backslash, complete, number_default, literal_default, measured_struct, is_i32, ids}
 use Rattle.idl_profile.specs.Text.{by_id}
+use Rattle.idl_print.proofs.Lists.{neither}
 use Rattle.idl_print.specs.Written.{name}
 use Rattle.idl_print.proofs.Pieces.{IsWord, IsLiteral}
 use Rattle.idl_print.proofs.Numbers.{Is64}
@@ -62,10 +63,6 @@ names-new name (x ∷ xs) w h = rw (apart_false (name x) w h.0) (names-new name 
 pub new-names : {A : Type 0} (name : A → List ℕ) (xs : List A) (w : List ℕ) → one_of (map name xs) w ≡ false → Each (λ x. name x ≢ w) xs
 new-names name [] w h = tt
 new-names name (x ∷ xs) w h = let a = neither (bytes_eq (name x) w) (one_of (map name xs) w) h in (false_apart (name x) w a.0, new-names name xs w a.1)
-  where
-    neither : (p q : Bool) → (p || q) ≡ false → (p ≡ false) × (q ≡ false)
-    neither true q e = absurd cc
-    neither false q e = (refl, e)
 
 int_false : (y z : ℤ) → y ≢ z → int_eq y z ≡ false
 int_false y z ne = by_test (int_eq y z) refl
@@ -81,10 +78,6 @@ ids-new (f ∷ fs) z h = rw (int_false f.id z h.0) (ids-new fs z h.1)
 pub new-ids : (fs : List m.Field) (z : ℤ) → list_any (λ i. int_eq i z) (ids fs) ≡ false → Each (λ f. f.id ≢ z) fs
 new-ids [] z h = tt
 new-ids (f ∷ fs) z h = let a = neither (int_eq f.id z) (list_any (λ i. int_eq i z) (ids fs)) h in ((λ is. let t = (Decides-int_eq f.id z).1 is in cc), new-ids fs z a.1)
-  where
-    neither : (p q : Bool) → (p || q) ≡ false → (p ≡ false) × (q ≡ false)
-    neither true q e = absurd cc
-    neither false q e = (refl, e)
 
 abbrev pub IsName : List ℕ → Type 0
 IsName w = IsWord w × (is_name w ≡ true)

@@ -11,6 +11,9 @@ use Rattle.idl_profile.specs.Types as types
 use Rattle.idl_profile.specs.Types.{TypeTree, field_list}
 use Rattle.idl_profile.specs.Measures.{scalar_tree, at, tree, fields, named_of, named_tree}
 use Rattle.idl_parse.specs.Parsed.{nameds, definition_in}
+use Rattle.idl_parse.proofs.Standing.{at_front, at_last}
+use Rattle.idl_parse.proofs.Rooting.{nameds-append}
+use Rattle.idl_print.proofs.Lists.{get-here, get-last}
 use Rattle.idl_print.specs.Printed as p
 use Rattle.idl_print.specs.Printed.{newline, need_text, member_text}
 use Rattle.idl_print.specs.Written.{name, name_at, name_if, scalar_text, type_text, empty_text, default_text, field_text, named_text, written}
@@ -82,39 +85,10 @@ module _ (all ns : List m.Named) (ts : List TypeTree) (kn : Knows all ns ts) whe
   named-same (m.enum_of w xs) h = refl
   named-same (m.struct_of w fs) h = ap (λ (z : List ℕ). codes "struct " ++ w ++ codes " {" ++ newline ++ z ++ codes "}" ++ newline) (fields-same fs h.1)
 
-pub nameds-append : (us vs : List TypeTree) → nameds (us ++ vs) ≡ nameds us ++ nameds vs
-nameds-append [] vs = refl
-nameds-append (types.scalar s ∷ us) vs = nameds-append us vs
-nameds-append (types.text ∷ us) vs = nameds-append us vs
-nameds-append (types.bytes ∷ us) vs = nameds-append us vs
-nameds-append (types.list_of x ∷ us) vs = nameds-append us vs
-nameds-append (types.set_of x ∷ us) vs = nameds-append us vs
-nameds-append (types.map_of x y ∷ us) vs = nameds-append us vs
-nameds-append (types.named n ∷ us) vs = ap (λ (z : List types.Named). n ∷ z) (nameds-append us vs)
-
-at-front : (ts us : List TypeTree) (i : ℕ) → i < length ts → at (ts ++ us) i ≡ at ts i
-at-front [] us i h = absurd (omega arith)
-at-front (t ∷ ts) us zero h = refl
-at-front (t ∷ ts) us (suc i) h = at-front ts us i (omega arith)
-
-at-last : (ts : List TypeTree) (t : TypeTree) → at (ts ++ t ∷ []) (length ts) ≡ t
-at-last [] t = refl
-at-last (u ∷ ts) t = at-last ts t
-
-get-below : {A : Type 0} (xs : List A) (x : A) (i : ℕ) → slice_get xs i ≡ Some x → i < length xs
+pub get-below : {A : Type 0} (xs : List A) (x : A) (i : ℕ) → slice_get xs i ≡ Some x → i < length xs
 get-below [] x i h = absurd cc
 get-below (y ∷ xs) x zero h = omega arith
 get-below (y ∷ xs) x (suc i) h = let k = get-below xs x i h in omega arith
-
-get-last : {A : Type 0} (xs : List A) (y x : A) (i : ℕ) → slice_get (xs ++ y ∷ []) i ≡ Some x → (slice_get xs i ≡ Some x) ⊎ ((i ≡ length xs) × (y ≡ x))
-get-last [] y x zero h = inr (refl, cc)
-get-last [] y x (suc i) h = absurd cc
-get-last (z ∷ xs) y x zero h = inl h
-get-last (z ∷ xs) y x (suc i) h = elim (get-last xs y x i h) [ inl g ↦ inl g | inr g ↦ inr (ap suc g.0, g.1) ]
-
-get-here : {A : Type 0} (xs : List A) (y : A) (ys : List A) → slice_get (xs ++ y ∷ ys) (length xs) ≡ Some y
-get-here [] y ys = refl
-get-here (x ∷ xs) y ys = get-here xs y ys
 
 pub name-same : (ts : List TypeTree) (n : m.Named) → p.name (named_of ts n) ≡ name n
 name-same ts (m.enum_of w xs) = refl
@@ -130,10 +104,10 @@ knows-push all ns ts n after is len kn i x e = by_place (get-last ns n x i e)
     by_place (inl g) =
         let a = kn i x g in
         let below = get-below ns x i g in
-        (a.0, at-front ts (named_tree ts n ∷ []) i (omega arith) ∙ a.1, a.2)
+        (a.0, at_front ts (named_tree ts n ∷ []) i (omega arith) ∙ a.1, a.2)
     by_place (inr g) =
         let same : i ≡ length ts = g.0 ∙ sym len in
-        (named_of ts n, ap (at (ts ++ named_tree ts n ∷ [])) same ∙ at-last ts (named_tree ts n), name-same ts n ∙ sym here ∙ ap (name_at all) (sym g.0))
+        (named_of ts n, ap (at (ts ++ named_tree ts n ∷ [])) same ∙ at_last ts (named_tree ts n), name-same ts n ∙ sym here ∙ ap (name_at all) (sym g.0))
 
 abbrev grown : List TypeTree → List m.Named → List TypeTree
 grown ts ns = fold (λ us n. us ++ named_tree us n ∷ []) ts ns

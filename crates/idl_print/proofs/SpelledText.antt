@@ -1,5 +1,5 @@
 -- The tokens of a printed definition spell it: enums, structs and the whole.
-use Rattle.std.proofs.Common.{◌≡◌, ◌≢◌, ◌⊎◌, inl, inr, ℕ, zero, suc, ◌+◌, ◌<◌, ◌≤◌, Bool, true, false, ◌||◌, List, [], ◌∷◌, ◌++◌, length, Option, Some, None, Result, Ok, Err, refl, sym, ap, ◌∙◌, subst, arith, append_assoc, append-nil}
+use Rattle.std.proofs.Common.{◌≡◌, ◌≢◌, ◌⊎◌, inl, inr, ℕ, ◌+◌, ◌<◌, ◌≤◌, Bool, true, false, ◌||◌, List, [], ◌∷◌, ◌++◌, length, Option, Some, None, Result, Ok, Err, refl, sym, ap, ◌∙◌, subst, arith, append_assoc, append-nil}
 use Rattle.std.specs.Prelude.{ℤ, codes, slice_get, nat_lt, if◌then◌else◌, is_some}
 use Rattle.std.specs.Str.{bytes_eq}
 use Rattle.std.proofs.lemmas.Bool.Decides.{nat_tests}
@@ -14,6 +14,7 @@ use Rattle.idl_profile.specs.Types.{TypeTree}
 use Rattle.idl_profile.specs.Measures.{tree, trees, named_tree, fields as tree_fields, depth, depths, at, scalar_tree}
 use Rattle.idl_profile.specs.Judged.{yes, is_mark, is_sep, one_of, new_name, measured, measured_struct, is_i32, counted, a_member, Members, no_members, member_names, an_enum, a_struct, begin_of, a_definition, entry_names}
 use Rattle.idl_profile.specs.Text.{closing, struct_body, struct_parts, make_parts, with_struct, own_number, member, with_member, with_enum, make_choice, enum_body, enum_parts, choice, structure, item, definition, whole}
+use Rattle.idl_print.proofs.Lists.{get-here, get-last, neither}
 use Rattle.idl_print.specs.Written.{name, name_at, name_if}
 use Rattle.idl_print.proofs.PrintedTokens.{fields_tokens, members_tokens, closed, all_tokens, printed_tokens}
 use Rattle.idl_print.proofs.TextTokens.{Each}
@@ -59,10 +60,6 @@ few_containers ns fs e = below-depths (trees ns) fs 32 (omega (arith, measured-d
 find-new : (w : List ℕ) (es : List m.Entry) (e : m.Entry) → one_of (entry_names es) w ≡ false → bytes_eq e.name w ≡ true → m.find w (es ++ e ∷ []) ≡ Some e.type
 find-new w [] e h is = rw is refl
 find-new w (d ∷ es) e h is = let a = neither (bytes_eq d.name w) (one_of (entry_names es) w) h in rw a.0 (find-new w es e a.1 is)
-  where
-    neither : (p q : Bool) → (p || q) ≡ false → (p ≡ false) × (q ≡ false)
-    neither true q e = absurd cc
-    neither false q e = (refl, e)
 
 found : (w : List ℕ) (es : List m.Entry) (e : m.Entry) (t : m.Ty) → m.find w es ≡ Some t → m.find w (es ++ e ∷ []) ≡ Some t
 found w [] e t h = absurd cc
@@ -71,16 +68,6 @@ found w (d ∷ es) e t h = by_test (λ k. found w es e t k) (bytes_eq d.name w) 
     by_test : (m.find w es ≡ Some t → m.find w (es ++ e ∷ []) ≡ Some t) → (b : Bool) → bytes_eq d.name w ≡ b → (if b then Some d.type else m.find w es) ≡ Some t → m.find w ((d ∷ es) ++ e ∷ []) ≡ Some t
     by_test ih true is k = rw is k
     by_test ih false is k = rw is (ih k)
-
-get-append : {A : Type 0} (xs : List A) (y : A) (ys : List A) → slice_get (xs ++ y ∷ ys) (length xs) ≡ Some y
-get-append [] y ys = refl
-get-append (x ∷ xs) y ys = get-append xs y ys
-
-get-last : {A : Type 0} (xs : List A) (y x : A) (i : ℕ) → slice_get (xs ++ y ∷ []) i ≡ Some x → (slice_get xs i ≡ Some x) ⊎ ((i ≡ length xs) × (y ≡ x))
-get-last [] y x zero h = inr (refl, cc)
-get-last [] y x (suc i) h = absurd cc
-get-last (z ∷ xs) y x zero h = inl h
-get-last (z ∷ xs) y x (suc i) h = elim (get-last xs y x i h) [ inl g ↦ inl g | inr g ↦ inr (ap suc g.0, g.1) ]
 
 each-split : {A : Type 0} (P : A → Type 0) (xs : List A) (y : A) → Each P (xs ++ y ∷ []) → Each P xs × P y
 each-split P [] y h = (tt, h.0)
@@ -103,7 +90,7 @@ bytes_same w = (bytes_eq-Decides w w).1 refl
 
 module _ (all ns : List m.Named) (es : List m.Entry) (n : m.Named) (after : List m.Named) (is : ns ++ n ∷ after ≡ all) (named : IsName (name n)) (new : Each (λ e. e.name ≢ name n) es) where
   here : name_at all (length ns) ≡ name n
-  here = ap (λ (z : List m.Named). name_at z (length ns)) (sym is) ∙ ap name_if (get-append ns n after)
+  here = ap (λ (z : List m.Named). name_at z (length ns)) (sym is) ∙ ap name_if (get-here ns n after)
 
   knows-last : IsName (name_at all (length ns)) × (m.find (name_at all (length ns)) (es ++ entry_for (length ns) n ∷ []) ≡ Some (type_for (length ns) n))
   knows-last =

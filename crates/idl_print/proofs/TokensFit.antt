@@ -11,6 +11,8 @@ use Rattle.idl_tokens.specs.Characters.{is_space, is_digit, is_word_start, is_wo
 use Rattle.idl_tokens.specs.Numbers.{Magnitude, magnitude, negative, in_64_bits}
 use Rattle.idl_tokens.specs.Tokens.{Tok, word, number, literal, Spot, Toks, Front, blank, token as token_front, wrong as wrong_front, line_comment, comment_end, block_comment, behind_slash, behind_quote, behind_sign, plain_front, front, more as more_front, placed, line_after, tokens_behind, tokens}
 use Rattle.idl_grammar.specs.Grammar.{Turn, enter, Grammar, give, token, next, look, loop, first, Turns, done, more, Spells}
+use Rattle.idl_tokens.proofs.Cuts.{quote-small}
+use Rattle.idl_print.proofs.Lists.{front-taken, front-dropped}
 use Rattle.idl_print.proofs.Pieces.{Every, IsWord, Quoted, IsLiteral}
 use Rattle.idl_print.proofs.Numbers.{Is64}
 use Rattle.idl_print.proofs.TextTokens.{Each}
@@ -69,14 +71,6 @@ get-here : (xs ys : List ℕ) (c : ℕ) → get_or (xs ++ c ∷ ys) (length xs) 
 get-here [] ys c = refl
 get-here (x ∷ xs) ys c = get-here xs ys c
 
-dropped : (v w : List ℕ) → drop (length v) (v ++ w) ≡ w
-dropped [] w = refl
-dropped (c ∷ v) w = dropped v w
-
-taken : (v w : List ℕ) → take (length v) (v ++ w) ≡ v
-taken [] w = refl
-taken (c ∷ v) w = ap (λ (z : List ℕ). c ∷ z) (taken v w)
-
 between-ascii : (full pre x rest : List ℕ) (c d : ℕ) → IsUtf8 full → full ≡ pre ++ c ∷ (x ++ d ∷ rest) → c < 128 → d < 128 → IsUtf8 x
 between-ascii full pre x rest c d u is cl dl =
     let lens : length full ≡ length pre + suc (length x + suc (length rest)) = ap length is ∙ length-append pre (c ∷ (x ++ d ∷ rest)) ∙ ap (λ (z : ℕ). length pre + suc z) (length-append x (d ∷ rest)) in
@@ -90,17 +84,14 @@ between-ascii full pre x rest c d u is cl dl =
     let n : length pre + 1 + length x - (length pre + 1) ≡ length x = omega arith in
     let one : length pre + 1 ≡ length (pre ++ c ∷ []) = sym (length-append pre (c ∷ [])) in
     let behind : drop (length pre + 1) full ≡ x ++ d ∷ rest =
-    ap (λ (k : ℕ). drop k full) one ∙ ap (λ (z : List ℕ). drop (length (pre ++ c ∷ [])) z) (is ∙ simp append_assoc) ∙ dropped (pre ++ c ∷ []) (x ++ d ∷ rest)
+    ap (λ (k : ℕ). drop k full) one ∙ ap (λ (z : List ℕ). drop (length (pre ++ c ∷ [])) z) (is ∙ simp append_assoc) ∙ front-dropped (pre ++ c ∷ []) (x ++ d ∷ rest)
     in
-    let e : take (length pre + 1 + length x - (length pre + 1)) (drop (length pre + 1) full) ≡ x = ap (λ (k : ℕ). take k (drop (length pre + 1) full)) n ∙ ap (λ (z : List ℕ). take (length x) z) behind ∙ taken x (d ∷ rest) in
+    let e : take (length pre + 1 + length x - (length pre + 1)) (drop (length pre + 1) full) ≡ x = ap (λ (k : ℕ). take k (drop (length pre + 1) full)) n ∙ ap (λ (z : List ℕ). take (length x) z) behind ∙ front-taken x (d ∷ rest) in
     subst IsUtf8 e here
 
 begins-is : (q : ℕ) (text : List ℕ) → begins_with q text ≡ true → (rest : List ℕ) × (text ≡ q ∷ rest)
 begins-is q [] e = absurd cc
 begins-is q (c ∷ text) e = (text, ap (λ (z : ℕ). z ∷ text) (eqb-true c q e))
-
-quote-small : (q : ℕ) → (q == 39 || q == 34) ≡ true → q < 128
-quote-small q e = grind (arith, nat_tests)
 
 quote-fits : (full pre : List ℕ) (q : ℕ) (text : List ℕ) → IsUtf8 full → full ≡ pre ++ q ∷ text → (q == 39 || q == 34) ≡ true → FrontFits (behind_quote q text)
 quote-fits full pre q text u is e = cond_both (begins_with q (drop (prefix_len (is_in_literal q) text) text)) _ _ FrontFits (λ f. (by_quote (q == 39) (q == 34) refl refl e, utf8 f)) (λ f. tt)

@@ -1,5 +1,5 @@
 -- A printed text is UTF-8.
-use Rattle.std.proofs.Common.{◌≡◌, ℕ, ◌<◌, Bool, true, false, ◌&&◌, List, [], ◌∷◌, ◌++◌, refl, arith}
+use Rattle.std.proofs.Common.{◌≡◌, ℕ, Bool, true, false, ◌&&◌, List, [], ◌∷◌, ◌++◌, refl}
 use Rattle.std.specs.Prelude.{ℤ, pos, negsuc, codes, nat_lt}
 use Rattle.std.specs.List.{flat_map}
 use Rattle.std.specs.Fmt.{signed_decimal}
@@ -8,8 +8,8 @@ use Rattle.std.proofs.lemmas.Str.{IsUtf8-append, IsUtf8-from_ascii}
 use Rattle.std.proofs.lemmas.Str.Ascii.{IsAscii-nil, IsAscii-cons}
 use Rattle.std.proofs.lemmas.Fmt.{IsAscii-signed}
 use Rattle.std.proofs.lemmas.Bool.{and_parts, ltb-true}
-use Rattle.std.proofs.lemmas.Bool.Decides.{nat_tests}
-use Rattle.idl_tokens.specs.Characters.{is_word_start, is_word_character}
+use Rattle.idl_tokens.specs.Characters.{is_word_character}
+use Rattle.idl_tokens.proofs.Cuts.{start-small, character-small}
 use Rattle.idl_profile.specs.declared.kinds.Scalar.{Scalar}
 use Rattle.idl_profile.specs.declared.kinds.Scalar.TheVariants as k
 use Rattle.idl_profile.specs.declared.kinds.Need.{Need}
@@ -39,15 +39,9 @@ small-ascii (c ∷ cs) h = let a = and_parts (nat_lt c 128) (is_small cs) h in I
 ascii : (bs : List ℕ) → is_small bs ≡ true → Utf8 bs
 ascii bs h = record { is = IsUtf8-from_ascii bs (small-ascii bs h) }
 
-word-small : (c : ℕ) → is_word_character c ≡ true → c < 128
-word-small c h = grind (arith, nat_tests)
-
-start-small : (c : ℕ) → is_word_start c ≡ true → c < 128
-start-small c h = grind (arith, nat_tests)
-
 word-ascii : (w : List ℕ) → Every is_word_character w → IsAscii w
 word-ascii [] h = IsAscii-nil
-word-ascii (c ∷ w) h = IsAscii-cons c w (word-small c h.0) (word-ascii w h.1)
+word-ascii (c ∷ w) h = IsAscii-cons c w (character-small c h.0) (word-ascii w h.1)
 
 word-utf8 : (w : List ℕ) → IsWord w → Utf8 w
 word-utf8 [] h = absurd h

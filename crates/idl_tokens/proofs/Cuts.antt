@@ -82,7 +82,7 @@ slash-cuts : (c : ℕ) (text rest : List ℕ) → FrontCuts c text (behind_slash
 slash-cuts c text [] = tt
 slash-cuts c text (d ∷ rest) = cond_both (d == 47) _ _ (FrontCuts c text) (λ e. tt) (λ e. cond_both (d == 42) _ _ (FrontCuts c text) (λ f. block-cuts c text (comment_end 1 rest)) (λ f. tt))
 
-quote-small : (q : ℕ) → (q == 39 || q == 34) ≡ true → q < 128
+pub quote-small : (q : ℕ) → (q == 39 || q == 34) ≡ true → q < 128
 quote-small q e = grind (arith, nat_tests)
 
 begins-here : (q n : ℕ) (text : List ℕ) → begins_with q (drop n text) ≡ true → get_or text n 0 ≡ q
@@ -97,10 +97,10 @@ quote-cuts q text e =
     cond_both (begins_with q (drop n text)) _ _ (FrontCuts q text)
     (λ f. let k : n + 1 ≡ suc n = omega arith in (quote-small q e, omega arith, rw k (omega (arith, quote-small q e, begins-here q n text f)))) (λ f. tt)
 
-start-small : (c : ℕ) → is_word_start c ≡ true → c < 128
+pub start-small : (c : ℕ) → is_word_start c ≡ true → c < 128
 start-small c h = grind (arith, nat_tests)
 
-character-small : (c : ℕ) → is_word_character c ≡ true → c < 128
+pub character-small : (c : ℕ) → is_word_character c ≡ true → c < 128
 character-small c h = grind (arith, nat_tests)
 
 last-small : (c n : ℕ) (text : List ℕ) → c < 128 → n ≤ prefix_len is_word_character text → get_or (c ∷ text) n 0 < 128

@@ -1,11 +1,12 @@
 -- The order that is derived for keys is that of the values.
-use Rattle.std.proofs.Common.{◌≡◌, true, false, refl, sym}
+use Rattle.std.proofs.Common.{◌≡◌, true, false, refl, sym, Equal}
 use Rattle.std.specs.Ordering.{int_cmp}
 use Rattle.key_order.specs.contracts.key.KeyOrd.TheImpl.{ghosts}
 use Rattle.key_order.specs.declared.key.Key.{Key}
 use Rattle.key_order.specs.declared.key.Key.TheVariants as key
 use Rattle.key_order.specs.Keys.{value_of}
-use Rattle.key_order.proofs.Order.{value_cmp, then_equal}
+use Rattle.key_order.proofs.Order.{value_cmp, then_equal, same_from_Equal}
+use Rattle.frozen_model.specs.Values.{Truth, Number, One, Bytes}
 
 pub key_cmp-is : (a b : Key) → ghosts.cmp a b ≡ value_cmp (value_of a) (value_of b)
 key_cmp-is (key.Flag true) (key.Flag true) = refl
@@ -20,3 +21,15 @@ key_cmp-is (key.Number x) (key.Flag b) = refl
 key_cmp-is (key.Number x) (key.Bytes t) = refl
 key_cmp-is (key.Bytes s) (key.Flag b) = refl
 key_cmp-is (key.Bytes s) (key.Number y) = refl
+
+-- keys that are equal in the order are one value
+pub same_key : (a b : Key) → value_cmp (value_of a) (value_of b) ≡ Equal → value_of a ≡ value_of b
+same_key (key.Flag a) (key.Flag b) h = same_from_Equal (One (Truth a)) (One (Truth b)) tt h
+same_key (key.Number x) (key.Number y) h = same_from_Equal (One (Number x)) (One (Number y)) tt h
+same_key (key.Bytes s) (key.Bytes t) h = same_from_Equal (Bytes s.now) (Bytes t.now) tt h
+same_key (key.Flag a) (key.Number y) h = absurd (cc)
+same_key (key.Flag a) (key.Bytes t) h = absurd (cc)
+same_key (key.Number x) (key.Flag b) h = absurd (cc)
+same_key (key.Number x) (key.Bytes t) h = absurd (cc)
+same_key (key.Bytes s) (key.Flag b) h = absurd (cc)
+same_key (key.Bytes s) (key.Number y) h = absurd (cc)

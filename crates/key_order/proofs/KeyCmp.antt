@@ -1,7 +1,8 @@
 -- The order that is derived for keys is that of the values.
-use Rattle.std.proofs.Common.{◌≡◌, true, false, refl, sym, Equal}
+use Rattle.std.proofs.Common.{rules, IsTrue, ◌↔◌, ◌≡◌, true, false, refl, sym, Equal}
 use Rattle.std.specs.Ordering.{int_cmp}
 use Rattle.key_order.specs.contracts.key.KeyOrd.TheImpl.{ghosts}
+use Rattle.key_order.specs.contracts.key.KeyPartialEq.TheImpl.{ghosts as equal}
 use Rattle.key_order.specs.declared.key.Key.{Key}
 use Rattle.key_order.specs.declared.key.Key.TheVariants as key
 use Rattle.key_order.specs.Keys.{value_of}
@@ -33,3 +34,7 @@ same_key (key.Number x) (key.Flag b) h = absurd (cc)
 same_key (key.Number x) (key.Bytes t) h = absurd (cc)
 same_key (key.Bytes s) (key.Flag b) h = absurd (cc)
 same_key (key.Bytes s) (key.Number y) h = absurd (cc)
+
+-- `==` of keys says whether they are one value
+pub key_eq-Decides : (a b : Key) → IsTrue (equal.eq a b) ↔ (value_of a ≡ value_of b)
+key_eq-Decides a b = search rules

@@ -1,12 +1,13 @@
 -- One step of the loop over neighbours.
-use Rattle.std.proofs.Common.{◌≡◌, ℕ, ◌+◌, ◌-◌, ◌<◌, ◌≤◌, List, length, Bool, true, false, Option, Some, None, nat_le, if◌then◌else◌, slice_index, refl, sym, ap, ◌∙◌, subst, arith, ◌⊎◌, inl, inr, ⊎_elim}
+use Rattle.std.proofs.Common.{◌≡◌, ℕ, ◌+◌, ◌-◌, ◌<◌, ◌≤◌, List, length, Option, Some, None, slice_index, refl, sym, ap, ◌∙◌, subst, arith, ◌⊎◌, inl, inr, ⊎_elim}
 use Rattle.std.proofs.lemmas.Bool.{cases_lt}
-use Rattle.std.proofs.lemmas.Bool.Decides.{nat_tests}
+use Rattle.std.specs.Option.{IfSome}
 use Rattle.key_order.specs.declared.repeats.Entry.{Entry}
 use Rattle.key_order.specs.declared.repeats.Repeat.{Repeat}
 use Rattle.key_order.specs.Keys.{value_of}
 use Rattle.key_order.proofs.Sorted.{at, place_at, one_key, one_key-same}
-use Rattle.key_order.specs.Entries.{places, HaveOneKey, places_at, IsLeastNeighbour, lesser_of}
+use Rattle.key_order.specs.Entries.{places}
+use Rattle.key_order.specs.Neighbours.{HaveOneKey, places_at, IsLeastNeighbour}
 
 module _ (es : List Entry) (n : ℕ) (some : 0 < n) (inside : n < length es) where
   -- of two neighbours up to n the first is an earlier one, or the last
@@ -36,26 +37,30 @@ module _ (es : List Entry) (n : ℕ) (some : 0 < n) (inside : n < length es) whe
     λ k lt other. ⊎_elim (λ l. least k l other) (λ e. let place = ap (λ m. slice_index (places es) (m + 1)) e in omega (arith, place)) (step k lt),
   )
 
-  taken : (r : Option Repeat) → IsLeastNeighbour es n r → HaveOneKey es (n - 1) → IsLeastNeighbour es (n + 1) (lesser_of r last.first last.second)
-  taken None h same = last_is_least same (λ k lt other. absurd (h k lt other))
-  taken (Some r) h same = by (nat_le r.second last.second) refl
-    where
-      by : (b : Bool) → nat_le r.second last.second ≡ b → IsLeastNeighbour es (n + 1) (if b then Some r else Some last)
-      by true t =
-          let le : r.second ≤ last.second = grind (arith, nat_tests) in
-          ((h.0.0, omega (arith, h.0.1), h.0.2, h.0.3), λ k lt other. ⊎_elim (λ l. h.1 k l other) (λ e. let place = ap (λ m. slice_index (places es) (m + 1)) e in omega (arith, le, place)) (step k lt))
-      by false t =
-          let lt : last.second ≤ r.second = grind (arith, nat_tests) in
-          last_is_least same (λ k l other. let le = h.1 k l other in omega (arith, lt, le))
+  taken : (r : Option Repeat) (s : Repeat) → IsLeastNeighbour es n r → HaveOneKey es (n - 1) → (Some s ≡ r) ⊎ (s ≡ last) → IfSome r (λ q. s.second ≤ q.second) → s.second ≤ last.second → IsLeastNeighbour es (n + 1) (Some s)
+  taken None s h same (inl e) known new = absurd (cc)
+  taken None s h same (inr e) known new = subst (λ q. IsLeastNeighbour es (n + 1) (Some q)) (sym e) (last_is_least same (λ k lt other. absurd (h k lt other)))
+  taken (Some r) s h same (inl e) known new =
+      let is : r ≡ s = cc in
+      let le : r.second ≤ last.second = subst (λ (q : Repeat). q.second ≤ last.second) (sym is) new in
+      subst (λ q. IsLeastNeighbour es (n + 1) (Some q)) is ((h.0.0, omega (arith, h.0.1), h.0.2, h.0.3), λ k lt other. ⊎_elim (λ l. h.1 k l other) (λ e. let place = ap (λ m. slice_index (places es) (m + 1)) e in omega (arith, le, place)) (step k lt))
+  taken (Some r) s h same (inr e) known new = subst (λ q. IsLeastNeighbour es (n + 1) (Some q)) (sym e) (last_is_least same (λ k l other. let le = h.1 k l other in let lt = ap (λ (q : Repeat). q.second) e in omega (arith, lt, known, le)))
 
   pub skip_last : (r : Option Repeat) → IsLeastNeighbour es n r → ¬ (value_of (at es (n - 1)).key ≡ value_of (at es n).key) → IsLeastNeighbour es (n + 1) r
   skip_last r h other = skipped r h (λ same. other (one-same same))
 
-  pub take_last : (r : Option Repeat) → IsLeastNeighbour es n r → value_of (at es (n - 1)).key ≡ value_of (at es n).key → IsLeastNeighbour es (n + 1) (lesser_of r (at es (n - 1)).place (at es n).place)
-  take_last r h same =
-      let first : last.first ≡ (at es (n - 1)).place = place_at es (n - 1) 0 (omega arith) in
-      let second : last.second ≡ (at es n).place = ap (slice_index (places es)) behind ∙ place_at es n 0 inside in
-      subst (λ s. IsLeastNeighbour es (n + 1) (lesser_of r (at es (n - 1)).place s)) second (subst (λ f. IsLeastNeighbour es (n + 1) (lesser_of r f last.second)) first (taken r h (one same)))
+  abbrev here : Repeat
+  here = record { first = (at es (n - 1)).place; second = (at es n).place }
+
+  here-is : here ≡ last
+  here-is =
+      let make : ℕ → ℕ → Repeat = λ f s. record { first = f; second = s } in
+      let second : (at es n).place ≡ last.second = sym (ap (slice_index (places es)) behind ∙ place_at es n 0 inside) in
+      ap (λ f. make f here.second) (sym (place_at es (n - 1) 0 (omega arith))) ∙ ap (make last.first) second
+
+  pub take_last : (known : Option Repeat) (s : Repeat) → IsLeastNeighbour es n known → value_of (at es (n - 1)).key ≡ value_of (at es n).key → (Some s ≡ known) ⊎ (s ≡ here) → IfSome known (λ q. s.second ≤ q.second) → s.second ≤ here.second → IsLeastNeighbour es (n + 1) (Some s)
+  take_last known s h same either low new =
+      taken known s h (one same) (⊎_elim (λ e. inl e) (λ e. inr (e ∙ here-is)) either) low (subst (λ (q : Repeat). s.second ≤ q.second) here-is new)
 
 -- after the last entry
 pub at_end : (es : List Entry) (n : ℕ) (r : Option Repeat) → length es ≤ n → (n ≤ length es) ⊎ (n ≡ 1) → IsLeastNeighbour es n r → IsLeastNeighbour es (length es) r

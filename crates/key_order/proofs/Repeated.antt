@@ -1,5 +1,5 @@
 -- The least repeat of entries in order, and of the same entries in any order.
-use Rattle.std.proofs.Common.{◌≡◌, ◌≢◌, ℕ, ◌+◌, ◌-◌, ◌<◌, ◌≤◌, List, length, map, get_or, nat_eq, Option, Some, None, refl, sym, ap, ◌∙◌, subst, arith, ◌⊎◌, inl, inr}
+use Rattle.std.proofs.Common.{◌≡◌, ◌≢◌, ℕ, ◌+◌, ◌-◌, ◌<◌, ◌≤◌, List, length, get_or, nat_eq, Option, Some, None, sym, ap, ◌∙◌, subst, arith, ◌⊎◌, inl, inr}
 use Rattle.std.specs.List.{AllPairs, Contains}
 use Rattle.std.specs.List.Sorted.{IsPermutation, IsSorted}
 use Rattle.std.specs.Option.{MatchOption, IfNone}
@@ -14,27 +14,28 @@ use Rattle.key_order.specs.contracts.repeats.EntryOrd.TheImpl.{ghosts}
 use Rattle.key_order.specs.declared.repeats.Entry.{Entry}
 use Rattle.key_order.specs.declared.repeats.Repeat.{Repeat}
 use Rattle.key_order.specs.Keys.{value_of, AreOneKind, AreRising}
-use Rattle.key_order.specs.Entries.{keys, places, placed, HaveOneKey, places_at, IsLeastNeighbour}
-use Rattle.key_order.specs.Repeats.{IsRepeat, IsLeastRepeat}
-use Rattle.key_order.proofs.Sorted.{at, key_at, place_at, one_key, one_key-same, between, places_rise, rising}
+use Rattle.key_order.specs.Entries.{keys, places, placed}
+use Rattle.key_order.specs.Neighbours.{HaveOneKey, IsLeastNeighbour}
+use Rattle.key_order.specs.Repeats.{IsRepeat, HasNoRepeat, IsLeastRepeat}
+use Rattle.key_order.proofs.Sorted.{at, place_at, one_key, one_key-same, between, places_rise, rising}
 
-abbrev pub Answers : List (Value × ℕ) → Option Repeat → Type 0
-Answers ks r = MatchOption r ((f s : ℕ) → ¬ IsRepeat ks f s) (λ r. IsLeastRepeat ks r.first r.second)
+abbrev pub Answers : List (ℕ × Value) → Option Repeat → Type 0
+Answers ks r = MatchOption r (HasNoRepeat ks) (λ r. IsLeastRepeat ks r.first r.second)
 
 abbrev Apart : List Entry → Type 0
 Apart es = AllPairs (λ p q. p ≢ q) (places es)
 
 -- ---- the order of the list plays no part
 
-repeat_moved : (ks ls : List (Value × ℕ)) (f s : ℕ) → IsPermutation ks ls → IsRepeat ks f s → IsRepeat ls f s
+repeat_moved : (ks ls : List (ℕ × Value)) (f s : ℕ) → IsPermutation ks ls → IsRepeat ks f s → IsRepeat ls f s
 repeat_moved ks ls f s p r = record {
   key = r.key;
-  at_first = Contains-permutation ks ls (r.key, f) p r.at_first;
-  at_second = Contains-permutation ks ls (r.key, s) p r.at_second;
+  at_first = Contains-permutation ks ls (f, r.key) p r.at_first;
+  at_second = Contains-permutation ks ls (s, r.key) p r.at_second;
   before = r.before;
 }
 
-answers_moved : (ks ls : List (Value × ℕ)) (r : Option Repeat) → IsPermutation ks ls → Answers ls r → Answers ks r
+answers_moved : (ks ls : List (ℕ × Value)) (r : Option Repeat) → IsPermutation ks ls → Answers ls r → Answers ks r
 answers_moved ks ls None p a = λ f s h. a f s (repeat_moved ks ls f s p h)
 answers_moved ks ls (Some r) p a = record {
   repeats = repeat_moved ls ks r.first r.second (IsPermutation-sym ks ls p) a.repeats;
@@ -49,17 +50,17 @@ apart_moved es fs p h =
 
 -- ---- a key and its place by index
 
-placed_at : (es : List Entry) (i : ℕ) (d : Value × ℕ) → i < length es → get_or (placed es) i d ≡ (value_of (at es i).key, (at es i).place)
-placed_at es i d h = get_or-map (λ (e : Entry). (value_of e.key, e.place)) es i _ d h
+placed_at : (es : List Entry) (i : ℕ) (d : ℕ × Value) → i < length es → get_or (placed es) i d ≡ ((at es i).place, value_of (at es i).key)
+placed_at es i d h = get_or-map (λ (e : Entry). (e.place, value_of e.key)) es i _ d h
 
-there : (es : List Entry) (i : ℕ) → i < length es → Contains (placed es) (value_of (at es i).key, (at es i).place)
-there es i h = (i, omega (arith, length-map {B = Value × ℕ} es (λ e. (value_of e.key, e.place))), placed_at es i _ h)
+there : (es : List Entry) (i : ℕ) → i < length es → Contains (placed es) ((at es i).place, value_of (at es i).key)
+there es i h = (i, omega (arith, length-map {B = ℕ × Value} es (λ e. (e.place, value_of e.key))), placed_at es i _ h)
 
-found : (es : List Entry) (k : Value) (p : ℕ) → Contains (placed es) (k, p) → (i : ℕ) × (i < length es) × (value_of (at es i).key ≡ k) × ((at es i).place ≡ p)
+found : (es : List Entry) (k : Value) (p : ℕ) → Contains (placed es) (p, k) → (i : ℕ) × (i < length es) × (value_of (at es i).key ≡ k) × ((at es i).place ≡ p)
 found es k p (i, h, e) =
-    let l : i < length es = omega (arith, length-map {B = Value × ℕ} es (λ e. (value_of e.key, e.place))) in
-    let is = sym (placed_at es i (k, p) l) ∙ e in
-    (i, l, ap (λ (x : Value × ℕ). x.0) is, ap (λ (x : Value × ℕ). x.1) is)
+    let l : i < length es = omega (arith, length-map {B = ℕ × Value} es (λ e. (e.place, value_of e.key))) in
+    let is = sym (placed_at es i (p, k) l) ∙ e in
+    (i, l, ap (λ (x : ℕ × Value). x.1) is, ap (λ (x : ℕ × Value). x.0) is)
 
 -- ---- where places differ, each has one key
 
@@ -75,7 +76,7 @@ module _ (es : List Entry) (apart : Apart es) where
       by (inr le) (inl lt) = absurd (clash j i lt h (sym same))
       by (inr le) (inr ge) = omega arith
 
-  one_key_at : (k l : Value) (p : ℕ) → Contains (placed es) (k, p) → Contains (placed es) (l, p) → k ≡ l
+  one_key_at : (k l : Value) (p : ℕ) → Contains (placed es) (p, k) → Contains (placed es) (p, l) → k ≡ l
   one_key_at k l p a b =
       let (i, h, key_i, place_i) = found es k p a in
       let (j, m, key_j, place_j) = found es l p b in
@@ -88,8 +89,8 @@ module _ (es : List Entry) (apart : Apart es) where
       key_is : s.key ≡ r.key
       key_is = one_key_at s.key r.key second s.at_second r.at_second
 
-      at_f : Contains (placed es) (r.key, f)
-      at_f = subst (λ k. Contains (placed es) (k, f)) key_is s.at_first
+      at_f : Contains (placed es) (f, r.key)
+      at_f = subst (λ k. Contains (placed es) (f, k)) key_is s.at_first
 
       by : (f < first) ⊎ (first ≤ f) → (first < f) ⊎ (f ≤ first) → f ≡ first
       by (inl lt) q = absurd (let h = least f first (record { key = r.key; at_first = at_f; at_second = r.at_first; before = lt }) in omega (arith, h, r.before))
@@ -126,8 +127,8 @@ module _ (es : List Entry) (up : IsSorted ghosts.cmp es) where
       let differ : (at es k).place ≡ (at es (k + 1)).place → ⊥ = λ same. let e = same_index es apart k (k + 1) m h same in omega arith in
       let repeats : IsRepeat (placed es) r.first r.second = record {
         key = value_of (at es k).key;
-        at_first = subst (λ p. Contains (placed es) (value_of (at es k).key, p)) first_is (there es k m);
-        at_second = subst (λ p. Contains (placed es) (value_of (at es k).key, p)) second_is (subst (λ v. Contains (placed es) (v, (at es (k + 1)).place)) (sym key_is) (there es (k + 1) h));
+        at_first = subst (λ p. Contains (placed es) (p, value_of (at es k).key)) first_is (there es k m);
+        at_second = subst (λ p. Contains (placed es) (p, value_of (at es k).key)) second_is (subst (λ v. Contains (placed es) ((at es (k + 1)).place, v)) (sym key_is) (there es (k + 1) h));
         before = omega (arith, rise, differ, first_is, second_is);
       } in
       let least : (f s : ℕ) → IsRepeat (placed es) f s → r.second ≤ s = λ f s q. let b = behind f s q in let le = n.1 b.0 b.1 b.2 in omega (arith, le, b.3, place_at es (b.0 + 1) 0 b.1) in
@@ -137,7 +138,7 @@ module _ (es : List Entry) (up : IsSorted ghosts.cmp es) where
 
 module _ (old new : List Entry) (moved : IsPermutation old new) (up : IsSorted ghosts.cmp new) where
   pub least_from_neighbours : (r : Option Repeat) → Apart old → IsLeastNeighbour new (length new) r → Answers (placed old) r
-  least_from_neighbours r apart n = answers_moved (placed old) (placed new) r (IsPermutation-map (λ (e : Entry). (value_of e.key, e.place)) old new moved) (answers new up r (apart_moved old new moved apart) n)
+  least_from_neighbours r apart n = answers_moved (placed old) (placed new) r (IsPermutation-map (λ (e : Entry). (e.place, value_of e.key)) old new moved) (answers new up r (apart_moved old new moved apart) n)
 
   pub rising_from_neighbours : (r : Option Repeat) → IsLeastNeighbour new (length new) r → AreOneKind (keys old) → IfNone r (AreRising (keys new))
   rising_from_neighbours None n kind =

@@ -1,5 +1,5 @@
 -- Entries in order: those of one key stand side by side, their places rising.
-use Rattle.std.proofs.Common.{◌≡◌, ◌≢◌, ℕ, ◌+◌, ◌-◌, ◌<◌, ◌≤◌, List, length, map, get_or, Bool, true, false, Ordering, Less, Equal, Greater, nat_cmp, is_lt, refl, sym, ap, ◌∙◌, subst, arith}
+use Rattle.std.proofs.Common.{◌≡◌, ℕ, ◌+◌, ◌<◌, ◌≤◌, List, length, get_or, false, Ordering, Less, Equal, Greater, nat_cmp, is_lt, refl, sym, ap, ◌∙◌, subst, arith}
 use Rattle.std.specs.List.{Contains}
 use Rattle.std.specs.List.Sorted.{IsSorted}
 use Rattle.std.specs.Ordering.{ordering_then, ordering_reverse}
@@ -9,12 +9,13 @@ use Rattle.std.proofs.lemmas.List.{get_or-map, length-map}
 use Rattle.std.proofs.lemmas.List.Elements.{Contains-get_or}
 use Rattle.std.proofs.lemmas.List.Sorted.{sorted_far, ranks_by}
 use Rattle.std.proofs.lemmas.Map.Keys.{ge_from_not_lt}
-use Rattle.frozen_model.specs.Values.{Value, Absent, key_less}
+use Rattle.frozen_model.specs.Values.{Value, Absent}
 use Rattle.key_order.specs.contracts.repeats.EntryOrd.TheImpl.{ghosts}
 use Rattle.key_order.specs.declared.repeats.Entry.{Entry}
 use Rattle.key_order.specs.declared.key.Key.TheVariants.{Flag}
 use Rattle.key_order.specs.Keys.{value_of, AreOneKind, AreRising}
-use Rattle.key_order.specs.Entries.{keys, places, HaveOneKey}
+use Rattle.key_order.specs.Entries.{keys, places}
+use Rattle.key_order.specs.Neighbours.{HaveOneKey}
 use Rattle.key_order.proofs.Order.{value_cmp, value_total, key_less_from_Greater, Equal_from_same}
 use Rattle.key_order.proofs.KeyCmp.{key_cmp-is, same_key}
 

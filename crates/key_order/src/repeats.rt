@@ -1,10 +1,11 @@
 //! Keys with their places, in order, and the least place whose key repeats.
 
-ghost use Rattle.std.specs.Prelude.{◌≡◌, ◌↔◌, ◌≢◌, ◌+◌, ◌<◌, ℕ, length, map, AllPairs, IsTrue, IfNone, MatchOption};
+ghost use Rattle.std.specs.Prelude.{◌≡◌, ◌≢◌, ◌≤◌, ◌⊎◌, length, Some, AllPairs, IfNone, IfSome, MatchOption};
 ghost use Rattle.std.specs.List.Sorted.{IsPermutation};
-ghost use Rattle.key_order.specs.Keys.{value_of, AreOneKind, AreRising};
-ghost use Rattle.key_order.specs.Entries.{keys, places, placed, IsLeastNeighbour, lesser_of};
-ghost use Rattle.key_order.specs.Repeats.{IsRepeat, IsLeastRepeat};
+ghost use Rattle.key_order.specs.Keys.{AreOneKind, AreRising};
+ghost use Rattle.key_order.specs.Entries.{keys, places, placed};
+ghost use Rattle.key_order.specs.Neighbours.{IsLeastNeighbour};
+ghost use Rattle.key_order.specs.Repeats.{HasNoRepeat, IsLeastRepeat};
 
 use crate::key::Key;
 
@@ -23,10 +24,10 @@ pub struct Repeat {
 }
 
 /// The least place whose key stands at an earlier place too, with that earlier place, and `None` where no key stands at
-/// two places. The entries are left in order. It takes as many steps as the sort, and no memory.
+/// two places. The entries are sorted: it takes the time of a sort, and no memory.
 pub fn least_repeat(entries: &mut [Entry<'_>]) -> Option<Repeat>
     requires { AllPairs (λ p q. p ≢ q) (places entries.old) }
-    ensures least { MatchOption result ((f s : ℕ) → ¬ IsRepeat (placed entries.old) f s) (λ r. IsLeastRepeat (placed entries.old) r.first r.second) }
+    ensures least { MatchOption result (HasNoRepeat (placed entries.old)) (λ r. IsLeastRepeat (placed entries.old) r.first r.second) }
     ensures moved { IsPermutation entries.old entries.new }
     ensures rising { AreOneKind (keys entries.old) → IfNone result (AreRising (keys entries.new)) }
 {
@@ -34,7 +35,7 @@ pub fn least_repeat(entries: &mut [Entry<'_>]) -> Option<Repeat>
     least_neighbour(entries)
 }
 
-/// Of the entries right behind one of the same key the one of least place, with the place of the entry before it.
+/// The places of two neighbours of one key, of such the ones where the second is the least.
 fn least_neighbour(entries: &[Entry<'_>]) -> Option<Repeat>
     ensures { IsLeastNeighbour entries.now (length entries.now) result }
 {
@@ -42,24 +43,25 @@ fn least_neighbour(entries: &[Entry<'_>]) -> Option<Repeat>
     for later in 1..entries.len() {
         let before = entries[later - 1];
         let here = entries[later];
-        if is_same(before.key, here.key) {
-            least = lesser(least, before.place, here.place);
+        if before.key == here.key {
+            let repeat = Repeat {
+                first: before.place,
+                second: here.place,
+            };
+            least = Some(lesser(least, repeat));
         }
     }
     least
 }
 
-fn is_same(a: Key<'_>, b: Key<'_>) -> bool
-    ensures { IsTrue result ↔ (value_of a.entry ≡ value_of b.entry) }
-{
-    a == b
-}
-
-fn lesser(least: Option<Repeat>, first: u64, second: u64) -> Option<Repeat>
-    ensures { result ≡ lesser_of least first second }
+/// Of two repeats the one whose second place is the lesser.
+fn lesser(least: Option<Repeat>, repeat: Repeat) -> Repeat
+    ensures either { (Some result ≡ least) ⊎ (result ≡ repeat) }
+    ensures below_known { IfSome least (λ r. result.second ≤ r.second) }
+    ensures below_new { result.second ≤ repeat.second }
 {
     match least {
-        Some(repeat) if repeat.second <= second => Some(repeat),
-        _ => Some(Repeat { first, second }),
+        Some(known) if known.second <= repeat.second => known,
+        _ => repeat,
     }
 }

@@ -3,3 +3,6 @@ pub mod KeyCmp
 pub mod Sorted
 pub mod Repeated
 pub mod Neighbours
+pub mod Rising
+pub mod Insertion
+pub mod Items

@@ -2,3 +2,5 @@ pub mod Keys
 pub mod Entries
 pub mod Repeats
 pub mod Neighbours
+pub mod InOrder
+pub mod Laws

@@ -1,0 +1,119 @@
+-- Values ranked by their keys: each key is below all later ones. There is one such list of the same members.
+use Rattle.std.proofs.Common.{◌≡◌, ◌≢◌, ◌↔◌, ℕ, zero, suc, ◌+◌, ◌<◌, List, [], ◌∷◌, length, map, get_or, Bool, true, false, Option, Some, None, Ordering, Less, Equal, Greater, refl, sym, ap, ◌∙◌, subst, arith, ◌⊎◌, inl, inr, suc-le-suc, zero-le}
+use Rattle.std.specs.List.{AllByRecursion, Contains, IsDistinct}
+use Rattle.std.specs.Ordering.{is_eq}
+use Rattle.std.proofs.lemmas.Cmp.{tied_itself}
+use Rattle.std.proofs.lemmas.List.Elements.{All-from_recursion, All-contains}
+use Rattle.std.proofs.lemmas.Map.Keys.{IsDistinct-cons}
+use Rattle.frozen_model.specs.Trees.{Holder, AList, ASet, AMap}
+use Rattle.frozen_model.specs.Values.{Value, key_less, key_of, Rises}
+use Rattle.key_order.specs.Keys.{AreOneKind, AreRising, IsOneKind}
+use Rattle.key_order.specs.InOrder.{row, HaveSameMembers}
+use Rattle.key_order.proofs.Order.{value_cmp, value_total, Less_from_key_less, key_less_from_Less}
+
+-- ---- keys that rise, one after another
+
+rising-cons : (k l : Value) (ls : List Value) → key_less k l ≡ true → AreRising (l ∷ ls) → AreRising (k ∷ l ∷ ls)
+rising-cons k l ls less h zero d lt = less
+rising-cons k l ls less h (suc i) d lt = let e : suc i + 1 ≡ suc (i + 1) = omega arith in rw e (h i d (omega arith))
+
+rising-head : (k l : Value) (ls : List Value) → AreRising (k ∷ l ∷ ls) → key_less k l ≡ true
+rising-head k l ls h = h 0 k (omega arith)
+
+rising-tail : (k l : Value) (ls : List Value) → AreRising (k ∷ l ∷ ls) → AreRising (l ∷ ls)
+rising-tail k l ls h i d lt = let e : suc i + 1 ≡ suc (i + 1) = omega arith in rw e at (h (suc i) d (omega arith))
+
+rising-one : (k : Value) → AreRising (k ∷ [])
+rising-one k i d lt = absurd (omega (arith, lt))
+
+rises-after : (h : Holder) (k : Value) (vs : List Value) → h ≢ AList → Rises h (Some k) (row vs) ↔ AreRising (k ∷ map key_of vs)
+rises-after AList k vs held = absurd (held refl)
+rises-after ASet k [] held = (λ r. rising-one k, λ r. tt)
+rises-after AMap k [] held = (λ r. rising-one k, λ r. tt)
+rises-after ASet k (v ∷ vs) held =
+    let rest = rises-after ASet (key_of v) vs held in
+    (λ r. rising-cons k (key_of v) (map key_of vs) r.0 (rest.0 r.1), λ r. (rising-head k (key_of v) (map key_of vs) r, rest.1 (rising-tail k (key_of v) (map key_of vs) r)))
+rises-after AMap k (v ∷ vs) held =
+    let rest = rises-after AMap (key_of v) vs held in
+    (λ r. rising-cons k (key_of v) (map key_of vs) r.0 (rest.0 r.1), λ r. (rising-head k (key_of v) (map key_of vs) r, rest.1 (rising-tail k (key_of v) (map key_of vs) r)))
+
+pub rises_by_keys : (h : Holder) (vs : List Value) → h ≢ AList → Rises h None (row vs) ↔ AreRising (map key_of vs)
+rises_by_keys AList vs held = absurd (held refl)
+rises_by_keys ASet [] held = (λ r i d lt. absurd (omega (arith, lt)), λ r. tt)
+rises_by_keys AMap [] held = (λ r i d lt. absurd (omega (arith, lt)), λ r. tt)
+rises_by_keys ASet (v ∷ vs) held = let rest = rises-after ASet (key_of v) vs held in (λ r. rest.0 r.1, λ r. (refl, rest.1 r))
+rises_by_keys AMap (v ∷ vs) held = let rest = rises-after AMap (key_of v) vs held in (λ r. rest.0 r.1, λ r. (refl, rest.1 r))
+
+-- ---- each key below all later ones
+
+abbrev pub Below : Value → Value → Type 0
+Below v u = value_cmp (key_of v) (key_of u) ≡ Less
+
+abbrev pub AreRanked : List Value → Type 0
+AreRanked [] = Unit {0}
+AreRanked (v ∷ vs) = AllByRecursion (Below v) vs × AreRanked vs
+
+pub below_all : (v u : Value) (us : List Value) → Below v u → AllByRecursion (Below u) us → AllByRecursion (Below v) us
+below_all v u [] less h = tt
+below_all v u (w ∷ us) less h = (value_total.trans (key_of v) (key_of u) (key_of w) less h.0, below_all v u us less h.1)
+
+pub ranked_from_rising : (vs : List Value) → AreRising (map key_of vs) → AreRanked vs
+ranked_from_rising [] h = tt
+ranked_from_rising (v ∷ []) h = (tt, tt)
+ranked_from_rising (v ∷ u ∷ us) h =
+    let rest = ranked_from_rising (u ∷ us) (rising-tail (key_of v) (key_of u) (map key_of us) h) in
+    let less = Less_from_key_less (key_of v) (key_of u) (rising-head (key_of v) (key_of u) (map key_of us) h) in
+    ((less, below_all v u us less rest.0), rest)
+
+pub rising_from_ranked : (vs : List Value) → AreOneKind (map key_of vs) → AreRanked vs → AreRising (map key_of vs)
+rising_from_ranked [] kind h = λ i d lt. absurd (omega (arith, lt))
+rising_from_ranked (v ∷ []) kind h = rising-one (key_of v)
+rising_from_ranked (v ∷ u ∷ us) kind h =
+    let one : IsOneKind (key_of v) (key_of u) = kind (key_of v) (key_of u) (0, omega arith, refl) (1, omega arith, refl) in
+    let behind : (k : Value) → Contains (map key_of (u ∷ us)) k → Contains (map key_of (v ∷ u ∷ us)) k = λ k c. (suc c.0, omega (arith, c.1), c.2) in
+    let rest = rising_from_ranked (u ∷ us) (λ k l a b. kind k l (behind k a) (behind l b)) h.1 in
+    rising-cons (key_of v) (key_of u) (map key_of us) (key_less_from_Less (key_of v) (key_of u) one h.0.0) rest
+
+-- ---- one list of the same members
+
+above_in : (v : Value) (us : List Value) (w : Value) → AllByRecursion (Below v) us → Contains us w → Below v w
+above_in v us w h c = All-contains (Below v) us w (All-from_recursion (Below v) us h) c
+
+in_cases : (u : Value) (us : List Value) (w : Value) → Contains (u ∷ us) w → (u ≡ w) ⊎ Contains us w
+in_cases u us w (zero, h, e) = inl e
+in_cases u us w (suc k, h, e) = inr (k, omega (arith, h), e)
+
+at_first : (v : Value) (vs : List Value) → Contains (v ∷ vs) v
+at_first v vs = (0, omega arith, refl)
+
+behind_first : (v : Value) (vs : List Value) (w : Value) → Contains vs w → Contains (v ∷ vs) w
+behind_first v vs w (k, h, e) = (suc k, omega (arith, h), e)
+
+both_below : (v u : Value) → Below v u → Below u v → ⊥
+both_below v u h g = let less = value_total.trans (key_of v) (key_of u) (key_of v) h g in let same = tied_itself value_total (key_of v) in cc
+
+heads : (v u : Value) (vs us : List Value) → AllByRecursion (Below v) vs → AllByRecursion (Below u) us → Contains (u ∷ us) v → Contains (v ∷ vs) u → v ≡ u
+heads v u vs us a b f g = by (in_cases u us v f) (in_cases v vs u g)
+  where
+    by : (u ≡ v) ⊎ Contains us v → (v ≡ u) ⊎ Contains vs u → v ≡ u
+    by (inl e) q = sym e
+    by (inr p) (inl e) = e
+    by (inr p) (inr q) = absurd (both_below v u (above_in v vs u a q) (above_in u us v b p))
+
+tails : (v : Value) (vs us : List Value) → AllByRecursion (Below v) vs → ((w : Value) → Contains (v ∷ vs) w → Contains (v ∷ us) w) → (w : Value) → Contains vs w → Contains us w
+tails v vs us a f w c = by (in_cases v us w (f w (behind_first v vs w c)))
+  where
+    by : (v ≡ w) ⊎ Contains us w → Contains us w
+    by (inl e) = let l : Below v v = subst (Below v) (sym e) (above_in v vs w a c) in absurd (both_below v v l l)
+    by (inr d) = d
+
+pub ranked_unique : (vs us : List Value) → AreRanked vs → AreRanked us → HaveSameMembers vs us → vs ≡ us
+ranked_unique [] [] r s same = refl
+ranked_unique [] (u ∷ us) r s same = let c = (same u).1 (at_first u us) in absurd (omega (arith, c.1))
+ranked_unique (v ∷ vs) [] r s same = let c = (same v).0 (at_first v vs) in absurd (omega (arith, c.1))
+ranked_unique (v ∷ vs) (u ∷ us) r s same =
+    let e : v ≡ u = heads v u vs us r.0 s.0 ((same v).0 (at_first v vs)) ((same u).1 (at_first u us)) in
+    let s' : AllByRecursion (Below v) us = subst (λ w. AllByRecursion (Below w) us) (sym e) s.0 in
+    let f : (w : Value) → Contains (v ∷ vs) w → Contains (v ∷ us) w = λ w c. subst (λ x. Contains (x ∷ us) w) (sym e) ((same w).0 c) in
+    let g : (w : Value) → Contains (v ∷ us) w → Contains (v ∷ vs) w = λ w c. (same w).1 (subst (λ x. Contains (x ∷ us) w) e c) in
+    ap (λ ws. v ∷ ws) (ranked_unique vs us r.1 s.1 (λ w. (tails v vs us r.0 f w, tails v us vs s' g w))) ∙ ap (λ w. w ∷ us) e

@@ -1,0 +1,5 @@
+use Rattle.key_order.proofs.Insertion.{order_rises}
+use Rattle.key_order.proofs.laws.order_rises.Goals as goal
+
+pub returns : goal.returns
+returns c = order_rises

@@ -6,3 +6,4 @@ pub mod Neighbours
 pub mod Rising
 pub mod Insertion
 pub mod Items
+pub mod Numbered

@@ -1,11 +1,13 @@
 -- Laws of values whose keys rise, in a set or a map.
 use Rattle.std.specs.Prelude.{◌≡◌, ◌≢◌, ◌↔◌, ℕ, List, map, AllPairs, All, None}
+use Rattle.std.specs.List.{enumerate_from}
 use Rattle.std.specs.List.Sorted.{IsPermutation}
 use Rattle.frozen_model.specs.Trees.{Holder, AList}
 use Rattle.frozen_model.specs.Values.{Value, key_of, Rises}
 use Rattle.key_order.specs.declared.repeats.Entry.{Entry}
 use Rattle.key_order.specs.Keys.{value_of, AreOneKind, AreRising}
-use Rattle.key_order.specs.Entries.{keys}
+use Rattle.key_order.specs.Entries.{keys, places, placed}
+use Rattle.key_order.specs.Repeats.{HasNoRepeat}
 use Rattle.key_order.specs.InOrder.{row, in_order, HaveSameMembers}
 
 -- a set or map rises where each key is below the next
@@ -27,6 +29,14 @@ OrderRises = (h : Holder) (vs : List Value) → AreOneKind (map key_of vs) → A
 -- and what rises with the same values is in that order
 abbrev pub RisingIsInOrder : Type 0
 RisingIsInOrder = (h : Holder) (vs us : List Value) → h ≢ AList → AreOneKind (map key_of vs) → IsPermutation vs us → Rises h None (row us) → us ≡ in_order vs
+
+-- entries that number keys from 0 have these keys, at places that differ
+abbrev pub NumberedPlacesDiffer : Type 0
+NumberedPlacesDiffer = (ks : List Value) (es : List Entry) → placed es ≡ enumerate_from 0 ks → (keys es ≡ ks) × AllPairs (λ p q. p ≢ q) (places es)
+
+-- and of keys that are numbered from 0 none repeats exactly where no two are the same
+abbrev pub NoneRepeatsWhereKeysDiffer : Type 0
+NoneRepeatsWhereKeysDiffer = (ks : List Value) → HasNoRepeat (enumerate_from 0 ks) ↔ AllPairs (λ k l. k ≢ l) ks
 
 -- the items at the places of entries are in order where the entries' keys rise
 abbrev pub EntriesAreInOrder : Type 0

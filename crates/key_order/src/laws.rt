@@ -1,6 +1,7 @@
 //! The laws of values whose keys rise, each a function whose contract is the law.
 
-ghost use Rattle.key_order.specs.Laws.{RisesByKeys, RisingIsUnique, OrderMoves, OrderRises, RisingIsInOrder, EntriesAreInOrder};
+ghost use Rattle.key_order.specs.Laws.{RisesByKeys, RisingIsUnique, OrderMoves, OrderRises, RisingIsInOrder};
+ghost use Rattle.key_order.specs.Laws.{NumberedPlacesDiffer, NoneRepeatsWhereKeysDiffer, EntriesAreInOrder};
 
 /// A set or map rises exactly where each key is below the next.
 pub fn rises_by_keys()
@@ -25,6 +26,16 @@ pub fn order_rises()
 /// Values that rise are in order.
 pub fn rising_is_in_order()
     ensures { RisingIsInOrder }
+{}
+
+/// Entries that number keys from 0 have these keys, and their places differ.
+pub fn numbered_places_differ()
+    ensures { NumberedPlacesDiffer }
+{}
+
+/// Of keys that are numbered from 0 none repeats exactly where no two are the same.
+pub fn none_repeats_where_keys_differ()
+    ensures { NoneRepeatsWhereKeysDiffer }
 {}
 
 /// The items at the places of entries are in order where the keys of the entries rise.

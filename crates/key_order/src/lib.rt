@@ -5,8 +5,8 @@ mod key;
 pub mod laws;
 mod repeats;
 
-pub use key::Key;
-pub use key::compare_keys;
-pub use repeats::Entry;
-pub use repeats::Repeat;
-pub use repeats::least_repeat;
+pub use key::{Key, compare_keys};
+pub use repeats::{Entry, Repeat, least_repeat};
+
+#[cfg(test)]
+mod tests;

@@ -7,7 +7,7 @@ use Rattle.frozen_model.specs.Values.{Value, Absent}
 use Rattle.key_order.specs.declared.repeats.Entry.{Entry}
 use Rattle.key_order.specs.Keys.{value_of}
 use Rattle.key_order.specs.Entries.{keys, places, placed}
-use Rattle.key_order.specs.Repeats.{IsRepeat, HasNoRepeat}
+use Rattle.key_order.specs.Repeats.{HasNoRepeat}
 
 -- ---- entries that number keys
 

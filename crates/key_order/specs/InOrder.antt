@@ -1,5 +1,5 @@
 -- Values in the order of their keys.
-use Rattle.std.specs.Prelude.{◌≡◌, ◌↔◌, List, [], ◌∷◌, if◌then◌else◌}
+use Rattle.std.specs.Prelude.{◌↔◌, List, [], ◌∷◌, if◌then◌else◌}
 use Rattle.std.specs.List.{Contains}
 use Rattle.frozen_model.specs.Values.{Value, Values, NoValue, And, key_less, key_of}
 

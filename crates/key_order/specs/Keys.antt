@@ -11,14 +11,14 @@ value_of (key.Flag b) = One (Truth b)
 value_of (key.Number z) = One (Number z)
 value_of (key.Bytes s) = Bytes s.now
 
--- the two are flags, numbers, or bytes
+-- both are flags, both are numbers, or both are bytes
 abbrev pub IsOneKind : Value → Value → Type 0
 IsOneKind (One (Truth a)) (One (Truth b)) = Unit {0}
 IsOneKind (One (Number x)) (One (Number y)) = Unit {0}
 IsOneKind (Bytes a) (Bytes b) = Unit {0}
 IsOneKind _ _ = ⊥
 
--- any two of them are
+-- any two of them are of one kind
 abbrev pub AreOneKind : List Value → Type 0
 AreOneKind ks = (k l : Value) → Contains ks k → Contains ks l → IsOneKind k l
 

@@ -13,7 +13,7 @@ HaveOneKey es k = slice_index_or (keys es) k Absent ≡ slice_index_or (keys es)
 abbrev pub places_at : List Entry → ℕ → Repeat
 places_at es k = record { first = slice_index (places es) k; second = slice_index (places es) (k + 1) }
 
--- among the first n entries, no two neighbours have one key, or of those that have these are the places, where the second is the least
+-- Of the first n entries no two neighbours have one key; or these are the places of two that do, and no two that do have a lesser second place.
 abbrev pub IsLeastNeighbour : List Entry → ℕ → Option Repeat → Type 0
 IsLeastNeighbour es n None = (k : ℕ) → k + 1 < n → ¬ HaveOneKey es k
 IsLeastNeighbour es n (Some r) =

@@ -1,3 +1,4 @@
+-- Each insertion only moves values.
 use Rattle.key_order.proofs.Insertion.{order_moves}
 use Rattle.key_order.proofs.laws.order_moves.Goals as goal
 

@@ -1,3 +1,4 @@
+-- Each insertion keeps each key below all later ones.
 use Rattle.key_order.proofs.Insertion.{order_rises}
 use Rattle.key_order.proofs.laws.order_rises.Goals as goal
 

@@ -1,3 +1,4 @@
+-- Insertion by key rises too, and one list rises.
 use Rattle.key_order.proofs.Insertion.{rising_keys_are_in_order}
 use Rattle.key_order.proofs.Rising.{rises_by_keys}
 use Rattle.key_order.proofs.laws.rising_is_in_order.Goals as goal

@@ -1,0 +1,5 @@
+//! Values as trees in a pool of nodes, read by references and made by a builder.
+#![tactic(auto)]
+
+mod pool;
+mod spot;

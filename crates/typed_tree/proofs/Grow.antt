@@ -6,7 +6,7 @@ use Rattle.std.proofs.Math.Seq.{get_or-append_seam}
 use Rattle.std.proofs.lemmas.Bool.{and_parts, and_from, leb-true}
 use Rattle.std.proofs.lemmas.Bool.Decides.{nat_tests}
 use Rattle.std.proofs.lemmas.List.{take-append-le, drop-append-le}
-use Rattle.frozen_model.specs.Values.{Value, Bytes, Items, Absent, Present, Record, Values, And}
+use Rattle.frozen_model.specs.Values.{Value, Bytes, Items, Absent, Present, Record, And}
 use Rattle.idl_tokens.specs.Spans.{may_begin, may_cut}
 use Rattle.typed_tree.specs.declared.spot.Spot.{Spot}
 use Rattle.typed_tree.specs.declared.spot.Spot.TheVariants as s

@@ -24,6 +24,10 @@ part bytes at = take at.len (drop at.start bytes)
 abbrev pub linked : Store → Run → List Link
 linked st r = take r.count (drop r.first st.links)
 
+-- a link of a list, where ids do not count
+abbrev pub item_link : ℕ → Link
+item_link n = record { id = 0; node = n }
+
 -- the values that links name, where the nodes have these
 abbrev pub pick : List Value → List Link → Values
 pick vs [] = NoValue

@@ -1,5 +1,7 @@
 //! Values as trees in a pool of nodes, read by references and made by a builder.
 #![tactic(auto)]
 
+mod items;
+mod number;
 mod pool;
 mod spot;

@@ -42,7 +42,7 @@ begins-append [] ys g h = h
 begins-append (x ∷ xs) ys g h = g
 
 -- what it is to be cut, in parts
-cut-parts : (text : List ℕ) (i j : ℕ) → may_cut text i j ≡ true → (j ≤ length text) × (may_begin (drop i text) ≡ true) × (may_begin (drop j text) ≡ true)
+pub cut-parts : (text : List ℕ) (i j : ℕ) → may_cut text i j ≡ true → (j ≤ length text) × (may_begin (drop i text) ≡ true) × (may_begin (drop j text) ≡ true)
 cut-parts text i j e =
     let a = and_parts (nat_le j (length text) && may_begin (drop i text)) (may_begin (drop j text)) e in
     let b = and_parts (nat_le j (length text)) (may_begin (drop i text)) a.0 in

@@ -1,2 +1,4 @@
+pub mod Parts
 pub mod Spots
 pub mod Pools
+pub mod Told

@@ -4,4 +4,8 @@
 mod items;
 mod number;
 mod pool;
+mod read;
 mod spot;
+mod tree;
+
+pub use tree::{Tree, TreeKind, TreeRef};

@@ -1,0 +1,30 @@
+-- The parts that nodes refer to.
+use Rattle.std.proofs.Common.{◌≡◌, ℕ, zero, suc, ◌+◌, ◌-◌, ◌<◌, ◌≤◌, List, [], ◌∷◌, true, ◌&&◌, nat_lt, nat_le, length, take, drop, get_or, refl, ap, ◌∙◌, subst, arith, length-drop}
+use Rattle.std.specs.List.{list_all}
+use Rattle.std.specs.Str.{IsUtf8}
+use Rattle.std.proofs.lemmas.Str.{IsUtf8-between}
+use Rattle.frozen_model.specs.Values.{Value, Absent, nth, count}
+use Rattle.idl_tokens.specs.declared.token.Span.{Span}
+use Rattle.idl_tokens.specs.Spans.{may_cut}
+use Rattle.idl_tokens.proofs.Cuts.{may-boundary}
+use Rattle.typed_tree.specs.declared.spot.Link.{Link}
+use Rattle.typed_tree.specs.Spots.{part, pick}
+use Rattle.typed_tree.proofs.Grow.{cut-parts}
+
+-- a text that may be cut out is a text
+pub part-utf8 : (text : List ℕ) (at : Span) → IsUtf8 text → may_cut text at.start (at.start + at.len) ≡ true → IsUtf8 (part text at)
+part-utf8 text at u h =
+    let cut = cut-parts text at.start (at.start + at.len) h in
+    let there : at.start + at.len ≤ length text = cut.0 in
+    let n : at.start + at.len - at.start ≡ at.len = omega arith in
+    subst (λ (k : ℕ). IsUtf8 (take k (drop at.start text))) n
+    (IsUtf8-between text at.start (at.start + at.len) u (omega arith) (may-boundary text at.start (omega arith) cut.1) (may-boundary text (at.start + at.len) there cut.2))
+
+pub count-pick : (vs : List Value) (ls : List Link) → count (pick vs ls) ≡ length ls
+count-pick vs [] = refl
+count-pick vs (l ∷ ls) = ap suc (count-pick vs ls)
+
+pub nth-pick : (vs : List Value) (ls : List Link) (i : ℕ) (d : Link) → i < length ls → nth (pick vs ls) i ≡ get_or vs (get_or ls i d).node Absent
+nth-pick vs [] i d h = absurd (omega arith)
+nth-pick vs (l ∷ ls) zero d h = refl
+nth-pick vs (l ∷ ls) (suc i) d h = nth-pick vs ls i d (omega arith)

@@ -1,0 +1,65 @@
+-- The parts of values.
+use Rattle.std.specs.Prelude.{◌≡◌, ℕ, ℤ, pos, List, [], ◌∷◌, if◌then◌else◌, Option, Some, None}
+use Rattle.std.specs.Ordering.{int_eq}
+use Rattle.std.specs.Str.{IsUtf8}
+use Rattle.frozen_model.specs.Values.{Truth, Number, Value, One, Bytes, Items, Absent, Present, Record, Values, NoValue, And}
+
+abbrev pub IsFlag : Value → Type 0
+IsFlag (One (Truth b)) = Unit {0}
+IsFlag _ = ⊥
+
+abbrev pub IsInt : Value → Type 0
+IsInt (One (Number z)) = Unit {0}
+IsInt _ = ⊥
+
+abbrev pub IsText : Value → Type 0
+IsText (Bytes bs) = IsUtf8 bs
+IsText _ = ⊥
+
+abbrev pub IsBytes : Value → Type 0
+IsBytes (Bytes bs) = Unit {0}
+IsBytes _ = ⊥
+
+-- a list, a set or a map
+abbrev pub IsItems : Value → Type 0
+IsItems (Items vs) = Unit {0}
+IsItems _ = ⊥
+
+abbrev pub IsRecord : Value → Type 0
+IsRecord (Record ids vs) = Unit {0}
+IsRecord _ = ⊥
+
+abbrev pub IsPresent : Value → Type 0
+IsPresent (Present v) = Unit {0}
+IsPresent _ = ⊥
+
+-- an entry of a map
+abbrev pub pair : Value → Value → Value
+pair key value = Record (1 ∷ 2 ∷ []) (And key (And value NoValue))
+
+abbrev pub IsPair : Value → Type 0
+IsPair (Record ids (And key (And value NoValue))) = ids ≡ 1 ∷ 2 ∷ []
+IsPair _ = ⊥
+
+-- the items of a list, a set or a map
+abbrev pub items_of : Value → Values
+items_of (Items vs) = vs
+items_of _ = NoValue
+
+-- the ids of a struct's fields, and their values
+abbrev pub ids_of : Value → List ℕ
+ids_of (Record ids vs) = ids
+ids_of _ = []
+
+abbrev pub fields_of : Value → Values
+fields_of (Record ids vs) = vs
+fields_of _ = NoValue
+
+-- the first of the values whose id this is
+abbrev pub find_field : List ℕ → Values → ℤ → Option Value
+find_field (i ∷ ids) (And v vs) id = if int_eq (pos i) id then Some v else find_field ids vs id
+find_field _ _ id = None
+
+-- the field of a struct with an id
+abbrev pub field_of : Value → ℤ → Option Value
+field_of v id = find_field (ids_of v) (fields_of v) id

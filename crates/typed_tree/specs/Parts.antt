@@ -2,7 +2,7 @@
 use Rattle.std.specs.Prelude.{◌≡◌, ℕ, ℤ, pos, List, [], ◌∷◌, if◌then◌else◌, Option, Some, None}
 use Rattle.std.specs.Ordering.{int_eq}
 use Rattle.std.specs.Str.{IsUtf8}
-use Rattle.frozen_model.specs.Values.{Truth, Number, Value, One, Bytes, Items, Absent, Present, Record, Values, NoValue, And}
+use Rattle.frozen_model.specs.Values.{Truth, Number, Value, One, Bytes, Items, Present, Record, Values, NoValue, And}
 
 abbrev pub IsFlag : Value → Type 0
 IsFlag (One (Truth b)) = Unit {0}

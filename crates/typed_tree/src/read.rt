@@ -1,5 +1,5 @@
 //! The accessors of trees. None takes memory, and none walks more than the node that it reads.
-ghost use Rattle.std.specs.Prelude.{◌≡◌, ◌↔◌, ◌<◌, ◌≤◌, ◌+◌, length, map, true, IsTrue, nat_lt, string_bytes, option_map};
+ghost use Rattle.std.specs.Prelude.{◌≡◌, ◌↔◌, ◌<◌, ◌≤◌, ◌+◌, ◌^◌, length, map, true, IsTrue, nat_lt, string_bytes, option_map};
 ghost use Rattle.std.specs.List.{list_all};
 ghost use Rattle.frozen_model.specs.Values.{Truth, Number, One, Bytes, Present, NoValue, count, nth};
 ghost use Rattle.idl_tokens.specs.Spans.{may_cut};
@@ -143,6 +143,7 @@ impl<'a> TreeRef<'a> {
         requires { all_linked (store_of self.pool.now) self.node run ≡ true }
         ensures links { result.now ≡ linked (store_of self.entry.pool.now) run }
         ensures below { list_all (λ l. nat_lt l.node self.entry.node) result.now ≡ true }
+        ensures few { length result.now < 2 ^ 32 }
     {
         let first = run.first as usize;
         &self.pool.links[first..first + run.count as usize]
@@ -152,6 +153,7 @@ impl<'a> TreeRef<'a> {
     fn items(self) -> &'a [Link]
         ensures items { pick (values_of self.entry.pool.now) result.now ≡ items_of (told self.entry) }
         ensures below { list_all (λ l. nat_lt l.node self.entry.node) result.now ≡ true }
+        ensures few { length result.now < 2 ^ 32 }
     {
         match self.spot() {
             Spot::List(run) | Spot::Set(run) | Spot::Map(run) => self.links(run),
@@ -164,6 +166,7 @@ impl<'a> TreeRef<'a> {
         ensures ids { map (λ l. l.id) result.now ≡ ids_of (told self.entry) }
         ensures fields { pick (values_of self.entry.pool.now) result.now ≡ fields_of (told self.entry) }
         ensures below { list_all (λ l. nat_lt l.node self.entry.node) result.now ≡ true }
+        ensures few { length result.now < 2 ^ 32 }
     {
         match self.spot() {
             Spot::Struct(run) => self.links(run),
@@ -222,7 +225,8 @@ impl<'a> TreeRef<'a> {
         requires { IsRecord (told self) }
         ensures { option_map told result ≡ field_of (told self.entry) id }
     {
-        for link in self.fields() {
+        let links = self.fields();
+        for link in links {
             if i32::from(link.id) == i32::from(id) {
                 return Some(self.part(link));
             }

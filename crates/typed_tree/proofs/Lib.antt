@@ -1,3 +1,4 @@
 pub mod Grow
 pub mod Growing
 pub mod Reading
+pub mod Stack

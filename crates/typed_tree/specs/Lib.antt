@@ -2,3 +2,4 @@ pub mod Parts
 pub mod Spots
 pub mod Pools
 pub mod Told
+pub mod Trees

@@ -1,6 +1,7 @@
 //! Values as trees in a pool of nodes, read by references and made by a builder.
 #![tactic(auto)]
 
+mod builder;
 mod items;
 mod number;
 mod pool;
@@ -8,4 +9,5 @@ mod read;
 mod spot;
 mod tree;
 
+pub use builder::Builder;
 pub use tree::{Tree, TreeKind, TreeRef};

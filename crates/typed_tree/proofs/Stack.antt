@@ -1,0 +1,92 @@
+-- The trees on a stack, as nodes and what they refer to grow.
+use Rattle.std.proofs.Common.{◌≡◌, ℕ, ◌<◌, ◌≤◌, zero, suc, List, [], ◌∷◌, ◌++◌, true, nat_lt, length, take, drop, map, get_or, refl, sym, ap, ◌∙◌, subst, arith, length-append}
+use Rattle.std.specs.List.{list_all}
+use Rattle.std.proofs.Math.ListN.{get_or-append}
+use Rattle.std.proofs.Math.Seq.{get_or-append_seam}
+use Rattle.std.proofs.lemmas.Bool.{and_parts, and_from}
+use Rattle.std.proofs.lemmas.Bool.Decides.{nat_tests}
+use Rattle.std.proofs.lemmas.List.{map-append}
+use Rattle.std.proofs.lemmas.List.Folds.{list_all-append}
+use Rattle.frozen_model.specs.Values.{Value, Absent, And}
+use Rattle.typed_tree.specs.declared.spot.Spot.{Spot}
+use Rattle.typed_tree.specs.Spots.{Store, item_link, pick, value_of, values, fits}
+use Rattle.typed_tree.specs.Pools.{Grows}
+use Rattle.typed_tree.specs.Trees.{trees_in, row}
+use Rattle.typed_tree.proofs.Grow.{below-true, length-known, known-more, known-stays}
+
+-- each number is below this one
+abbrev pub below : ℕ → List ℕ → Type 0
+below n ks = list_all (λ k. nat_lt k n) ks ≡ true
+
+lt-test : (m n : ℕ) → m < n → nat_lt m n ≡ true
+lt-test m n h = grind (arith, nat_tests)
+
+pub below-wider : (n m : ℕ) (ks : List ℕ) → n ≤ m → below n ks → below m ks
+below-wider n m [] le h = refl
+below-wider n m (k ∷ ks) le h =
+    let p = and_parts (nat_lt k n) (list_all (λ k. nat_lt k n) ks) h in
+    and_from _ _ (lt-test k m (omega (arith, below-true k n p.0))) (below-wider n m ks le p.1)
+
+pub below-put : (n : ℕ) (ks : List ℕ) (k : ℕ) → k < n → below n ks → below n (ks ++ k ∷ [])
+below-put n ks k lt h = list_all-append (λ j. nat_lt j n) ks (k ∷ []) ∙ and_from _ _ h (and_from _ _ (lt-test k n lt) refl)
+
+pub below-take : (n : ℕ) (i : ℕ) (ks : List ℕ) → below n ks → below n (take i ks)
+below-take n zero ks h = refl
+below-take n (suc i) [] h = refl
+below-take n (suc i) (k ∷ ks) h = let p = and_parts (nat_lt k n) (list_all (λ k. nat_lt k n) ks) h in and_from _ _ p.0 (below-take n i ks p.1)
+
+pub below-drop : (n : ℕ) (i : ℕ) (ks : List ℕ) → below n ks → below n (drop i ks)
+below-drop n zero ks h = h
+below-drop n (suc i) [] h = refl
+below-drop n (suc i) (k ∷ ks) h = below-drop n i ks (and_parts (nat_lt k n) (list_all (λ k. nat_lt k n) ks) h).1
+
+-- more nodes leave the trees
+trees-stay : (vs us : List Value) (ks : List ℕ) → below (length vs) ks → trees_in (vs ++ us) ks ≡ trees_in vs ks
+trees-stay vs us [] h = refl
+trees-stay vs us (k ∷ ks) h =
+    let p = and_parts (nat_lt k (length vs)) (list_all (λ k. nat_lt k (length vs)) ks) h in
+    ap (λ v. v ∷ trees_in (vs ++ us) ks) (get_or-append vs us Absent k (below-true k (length vs) p.0)) ∙ ap (λ r. get_or vs k Absent ∷ r) (trees-stay vs us ks p.1)
+
+-- a node more, and its number on the stack
+pub trees-put : (st : Store) (xs : List Spot) (ks : List ℕ) (x : Spot) (n : ℕ) → below (length xs) ks → n ≡ length xs
+    → trees_in (values st (xs ++ x ∷ [])) (ks ++ n ∷ []) ≡ trees_in (values st xs) ks ++ value_of st (values st xs) x ∷ []
+trees-put st xs ks x n h e =
+    let vs = values st xs in
+    let v = value_of st vs x in
+    let len : length vs ≡ length xs = omega (arith, length-known st [] xs) in
+    ap (λ (us : List Value). trees_in us (ks ++ n ∷ [])) (known-more st [] xs x)
+    ∙ map-append (λ k. get_or (vs ++ v ∷ []) k Absent) ks (n ∷ [])
+    ∙ ap (λ r. r ++ get_or (vs ++ v ∷ []) n Absent ∷ []) (trees-stay vs (v ∷ []) ks (ap (λ k. list_all (λ j. nat_lt j k) ks) len ∙ h))
+    ∙ ap (λ k. trees_in vs ks ++ get_or (vs ++ v ∷ []) k Absent ∷ []) (e ∙ sym len)
+    ∙ ap (λ w. trees_in vs ks ++ w ∷ []) (get_or-append_seam vs v [] Absent)
+
+-- more links, text and bytes leave them
+pub trees-grown : (old new : Store) (xs : List Spot) (ks : List ℕ) → Grows old new → fits old 0 xs ≡ true → trees_in (values new xs) ks ≡ trees_in (values old xs) ks
+trees-grown old new xs ks grows h = ap (λ (us : List Value). trees_in us ks) (known-stays old new grows [] 0 xs h)
+
+-- the values that links to trees name
+pub pick-items : (vs : List Value) (ks : List ℕ) → pick vs (map item_link ks) ≡ row (trees_in vs ks)
+pick-items vs [] = refl
+pick-items vs (k ∷ ks) = ap (And (get_or vs k Absent)) (pick-items vs ks)
+
+-- ---- as the code has it
+
+pub trees-put-is : (st st' : Store) (xs xs' : List Spot) (ks ks' : List ℕ) (x : Spot) (n : ℕ) → below (length xs) ks → n ≡ length xs → st' ≡ st → xs' ≡ xs ++ x ∷ [] → ks' ≡ ks ++ n ∷ []
+    → trees_in (values st' xs') ks' ≡ trees_in (values st xs) ks ++ value_of st (values st xs) x ∷ []
+trees-put-is st st' xs xs' ks ks' x n h e a b c =
+    ap (λ (s : Store). trees_in (values s xs') ks') a ∙ ap (λ (zs : List Spot). trees_in (values st zs) ks') b ∙ ap (trees_in (values st (xs ++ x ∷ []))) c ∙ trees-put st xs ks x n h e
+
+pub below-put-is : (xs xs' : List Spot) (ks ks' : List ℕ) (x : Spot) (n : ℕ) → below (length xs) ks → n ≡ length xs → xs' ≡ xs ++ x ∷ [] → ks' ≡ ks ++ n ∷ [] → below (length xs') ks'
+below-put-is xs xs' ks ks' x n h e b c =
+    let len : length xs' ≡ suc (length xs) = omega (arith, ap (λ (zs : List Spot). length zs) b, length-append xs (x ∷ [])) in
+    subst (below (length xs')) (sym c) (below-put (length xs') ks n (omega (arith, len, e)) (below-wider (length xs) (length xs') ks (omega (arith, len)) h))
+
+-- what grew in between two calls that changed nothing else
+pub trees-grown-is : (st st' new : Store) (xs xs' xs'' : List Spot) (ks ks' : List ℕ) → fits st 0 xs ≡ true → st' ≡ st → xs' ≡ xs → ks' ≡ ks → Grows st' new → xs'' ≡ xs'
+    → trees_in (values new xs'') ks' ≡ trees_in (values st xs) ks
+trees-grown-is st st' new xs xs' xs'' ks ks' h a b c grows d =
+    ap (λ (zs : List Spot). trees_in (values new zs) ks') (d ∙ b) ∙ ap (trees_in (values new xs)) c ∙ trees-grown st new xs ks (subst (λ (s : Store). Grows s new) a grows) h
+
+-- a tree put on top of those that stayed
+pub put-on : (ts us vs : List Value) (v w : Value) → ts ≡ us ++ v ∷ [] → v ≡ w → us ≡ vs → ts ≡ vs ++ w ∷ []
+put-on ts us vs v w e f g = cc

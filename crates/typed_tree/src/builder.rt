@@ -1,0 +1,127 @@
+//! The builder of trees.
+ghost use Rattle.std.specs.Prelude.{◌≡◌, true, nat_lt, length};
+ghost use Rattle.std.specs.List.{list_all};
+
+use crate::pool::Pool;
+use crate::spot::Spot;
+use crate::tree::Tree;
+use std::alloc::{AllocError, Global};
+
+/// A stack of trees. Each call puts one on top, made of those that were on top.
+#[derive(Drop)]
+pub struct Builder {
+    pool: Pool,
+    // The numbers of the trees' nodes.
+    stack: Vec<u32>,
+    ghost placed: { list_all (λ n. nat_lt n (length pool.nodes.items)) stack.items ≡ true },
+}
+
+impl Builder {
+    ghost use Rattle.std.specs.Prelude.{◌≤◌, ◌++◌, ◌∷◌, [], IfOk, OnOk, OnErr, map};
+    ghost use Rattle.frozen_model.specs.Values.{Truth, Number, One, Bytes, Items, Absent, Present};
+    ghost use Rattle.typed_tree.specs.Spots.{fits_at, value_of};
+    ghost use Rattle.typed_tree.specs.Pools.{store_of, values_of};
+    ghost use Rattle.typed_tree.specs.Told.{whole};
+    ghost use Rattle.typed_tree.specs.Trees.{trees, last, but_last, row, HasRoom};
+
+    /// An empty stack.
+    pub fn new(alloc: Global) -> Builder
+        ensures { trees result ≡ [] }
+    {
+        Builder {
+            pool: Pool::new(alloc),
+            stack: Vec::new(alloc),
+        }
+    }
+
+    // Makes room for one more tree, and gives the number that its node will have.
+    fn reserve(&mut self) -> Result<u32, AllocError>
+        ensures store { store_of self.new.pool ≡ store_of self.old.pool }
+        ensures nodes { self.new.pool.nodes.items ≡ self.old.pool.nodes.items }
+        ensures stack { self.new.stack.items ≡ self.old.stack.items }
+        ensures room { OnOk result (HasRoom self.new) }
+        ensures number { IfOk result (λ n. n ≡ length self.old.pool.nodes.items) }
+    {
+        let number = self.pool.reserve()?;
+        self.stack.reserve(1)?;
+        Ok(number)
+    }
+
+    // Puts a node and its number where room was made for them.
+    fn put(&mut self, number: u32, spot: Spot)
+        requires room { HasRoom self.old }
+        requires number { number ≡ length self.old.pool.nodes.items }
+        requires fit { fits_at (store_of self.old.pool) (length self.old.pool.nodes.items) spot ≡ true }
+        ensures { trees self.new ≡ trees self.old ++ value_of (store_of self.old.pool) (values_of self.old.pool) spot ∷ [] }
+    {
+        self.pool.put(spot);
+        self.stack.push_reserved(number);
+    }
+
+    // Puts a node that refers to nothing but nodes.
+    fn push(&mut self, spot: Spot) -> Result<(), AllocError>
+        requires { fits_at (store_of self.old.pool) (length self.old.pool.nodes.items) spot ≡ true }
+        ensures pushed { OnOk result (trees self.new ≡ trees self.old ++ value_of (store_of self.old.pool) (values_of self.old.pool) spot ∷ []) }
+        ensures failed { OnErr result (trees self.new ≡ trees self.old) }
+    {
+        let number = self.reserve()?;
+        self.put(number, spot);
+        Ok(())
+    }
+
+    /// Puts a flag.
+    pub fn flag(&mut self, x: bool) -> Result<(), AllocError>
+        ensures pushed { OnOk result (trees self.new ≡ trees self.old ++ One (Truth x) ∷ []) }
+        ensures failed { OnErr result (trees self.new ≡ trees self.old) }
+    {
+        self.push(Spot::Flag(x))
+    }
+
+    /// Puts a number.
+    pub fn int(&mut self, x: i64) -> Result<(), AllocError>
+        ensures pushed { OnOk result (trees self.new ≡ trees self.old ++ One (Number x) ∷ []) }
+        ensures failed { OnErr result (trees self.new ≡ trees self.old) }
+    {
+        self.push(Spot::Int(x))
+    }
+
+    /// Puts an optional that is absent.
+    pub fn absent(&mut self) -> Result<(), AllocError>
+        ensures pushed { OnOk result (trees self.new ≡ trees self.old ++ Absent ∷ []) }
+        ensures failed { OnErr result (trees self.new ≡ trees self.old) }
+    {
+        self.push(Spot::Absent)
+    }
+
+    /// Puts a text.
+    pub fn text(&mut self, x: &str) -> Result<(), AllocError>
+        ensures pushed { OnOk result (trees self.new ≡ trees self.old ++ Bytes x.now ∷ []) }
+        ensures failed { OnErr result (trees self.new ≡ trees self.old) }
+    {
+        let number = self.reserve()?;
+        let at = self.pool.add_text(x)?;
+        self.put(number, Spot::Text(at));
+        Ok(())
+    }
+
+    /// Puts bytes.
+    pub fn bytes(&mut self, x: &[u8]) -> Result<(), AllocError>
+        ensures pushed { OnOk result (trees self.new ≡ trees self.old ++ Bytes x.now ∷ []) }
+        ensures failed { OnErr result (trees self.new ≡ trees self.old) }
+    {
+        let number = self.reserve()?;
+        let at = self.pool.add_bytes(x)?;
+        self.put(number, Spot::Bytes(at));
+        Ok(())
+    }
+
+    /// The one tree.
+    pub fn finish(self) -> Tree
+        requires { length (trees self) ≡ 1 }
+        ensures { trees self ≡ whole result ∷ [] }
+    {
+        let Builder { pool, stack } = self;
+        let top = stack[0];
+        Tree { pool, top }
+    }
+}

@@ -2,3 +2,4 @@ pub mod Grow
 pub mod Growing
 pub mod Reading
 pub mod Stack
+pub mod Structs

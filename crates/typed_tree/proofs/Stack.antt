@@ -1,18 +1,20 @@
 -- The trees on a stack, as nodes and what they refer to grow.
-use Rattle.std.proofs.Common.{◌≡◌, ℕ, ◌<◌, ◌≤◌, zero, suc, List, [], ◌∷◌, ◌++◌, true, nat_lt, length, take, drop, map, get_or, refl, sym, ap, ◌∙◌, subst, arith, length-append}
+use Rattle.std.proofs.Common.{◌≡◌, ℕ, ◌+◌, ◌-◌, ◌<◌, ◌≤◌, zero, suc, List, [], ◌∷◌, ◌++◌, true, nat_lt, length, take, drop, map, get_or, refl, sym, ap, ◌∙◌, subst, arith, length-append, length-drop}
 use Rattle.std.specs.List.{list_all}
-use Rattle.std.proofs.Math.ListN.{get_or-append}
-use Rattle.std.proofs.Math.Seq.{get_or-append_seam}
+use Rattle.std.proofs.Math.ListN.{get_or-append, get_or-map, drop_of_length-le}
+use Rattle.std.proofs.Math.Seq.{get_or-append_seam, drop-cons, take-length}
 use Rattle.std.proofs.lemmas.Bool.{and_parts, and_from}
 use Rattle.std.proofs.lemmas.Bool.Decides.{nat_tests}
-use Rattle.std.proofs.lemmas.List.{map-append}
-use Rattle.std.proofs.lemmas.List.Folds.{list_all-append}
+use Rattle.std.proofs.lemmas.List.{map-append, length-map, take-map, drop-map}
+use Rattle.std.proofs.lemmas.List.Folds.{list_all-append, list_all-map}
 use Rattle.frozen_model.specs.Values.{Value, Absent, And}
 use Rattle.typed_tree.specs.declared.spot.Spot.{Spot}
-use Rattle.typed_tree.specs.Spots.{Store, item_link, pick, value_of, values, fits}
+use Rattle.typed_tree.specs.declared.spot.Run.{Run}
+use Rattle.typed_tree.specs.Spots.{Store, linked, all_linked, item_link, pick, value_of, values, fits}
 use Rattle.typed_tree.specs.Pools.{Grows}
-use Rattle.typed_tree.specs.Trees.{trees_in, row}
-use Rattle.typed_tree.proofs.Grow.{below-true, length-known, known-more, known-stays}
+use Rattle.typed_tree.specs.Parts.{row}
+use Rattle.typed_tree.specs.Trees.{trees_in, last, but_last}
+use Rattle.typed_tree.proofs.Grow.{below-true, le-test, length-known, known-more, known-stays}
 
 -- each number is below this one
 abbrev pub below : ℕ → List ℕ → Type 0
@@ -60,10 +62,6 @@ trees-put st xs ks x n h e =
     ∙ ap (λ k. trees_in vs ks ++ get_or (vs ++ v ∷ []) k Absent ∷ []) (e ∙ sym len)
     ∙ ap (λ w. trees_in vs ks ++ w ∷ []) (get_or-append_seam vs v [] Absent)
 
--- more links, text and bytes leave them
-pub trees-grown : (old new : Store) (xs : List Spot) (ks : List ℕ) → Grows old new → fits old 0 xs ≡ true → trees_in (values new xs) ks ≡ trees_in (values old xs) ks
-trees-grown old new xs ks grows h = ap (λ (us : List Value). trees_in us ks) (known-stays old new grows [] 0 xs h)
-
 -- the values that links to trees name
 pub pick-items : (vs : List Value) (ks : List ℕ) → pick vs (map item_link ks) ≡ row (trees_in vs ks)
 pick-items vs [] = refl
@@ -81,12 +79,43 @@ below-put-is xs xs' ks ks' x n h e b c =
     let len : length xs' ≡ suc (length xs) = omega (arith, ap (λ (zs : List Spot). length zs) b, length-append xs (x ∷ [])) in
     subst (below (length xs')) (sym c) (below-put (length xs') ks n (omega (arith, len, e)) (below-wider (length xs) (length xs') ks (omega (arith, len)) h))
 
--- what grew in between two calls that changed nothing else
-pub trees-grown-is : (st st' new : Store) (xs xs' xs'' : List Spot) (ks ks' : List ℕ) → fits st 0 xs ≡ true → st' ≡ st → xs' ≡ xs → ks' ≡ ks → Grows st' new → xs'' ≡ xs'
-    → trees_in (values new xs'') ks' ≡ trees_in (values st xs) ks
-trees-grown-is st st' new xs xs' xs'' ks ks' h a b c grows d =
-    ap (λ (zs : List Spot). trees_in (values new zs) ks') (d ∙ b) ∙ ap (trees_in (values new xs)) c ∙ trees-grown st new xs ks (subst (λ (s : Store). Grows s new) a grows) h
+-- the values of nodes that stayed, where what they refer to grew in between
+pub values-stay : (st st' new : Store) (xs xs' xs'' : List Spot) → fits st 0 xs ≡ true → st' ≡ st → xs' ≡ xs → Grows st' new → xs'' ≡ xs' → values new xs'' ≡ values st xs
+values-stay st st' new xs xs' xs'' h a b grows d = ap (values new) (d ∙ b) ∙ known-stays st new (subst (λ (s : Store). Grows s new) a grows) [] 0 xs h
 
 -- a tree put on top of those that stayed
 pub put-on : (ts us vs : List Value) (v w : Value) → ts ≡ us ++ v ∷ [] → v ≡ w → us ≡ vs → ts ≡ vs ++ w ∷ []
 put-on ts us vs v w e f g = cc
+
+-- links to trees on the stack are there, and lead below
+pub items-fit : (st : Store) (n : ℕ) (r : Run) (ks : List ℕ) → r.first + r.count ≡ length st.links → linked st r ≡ map item_link ks → below n ks → all_linked st n r ≡ true
+items-fit st n r ks e f h =
+    and_from _ _ (le-test (r.first + r.count) (length st.links) (omega (arith, e))) (ap (list_all (λ l. nat_lt l.node n)) f ∙ list_all-map (λ l. nat_lt l.node n) item_link ks ∙ h)
+
+-- the last tree
+pub last-one : (f : ℕ → Value) (ks : List ℕ) (i d : ℕ) → suc i ≡ length ks → drop i (map f ks) ≡ f (get_or ks i d) ∷ []
+last-one f ks i d e =
+    let n : length (map f ks) ≡ length ks = length-map ks f in
+    drop-cons (map f ks) i (f d) (omega (arith, n, e)) ∙ ap (λ vs. get_or (map f ks) i (f d) ∷ vs) (drop_of_length-le (map f ks) {i = suc i} (omega (arith, n, e))) ∙ ap (λ v. v ∷ []) (get_or-map f ks i d)
+
+-- the first trees, where nodes stay
+pub below-cut-is : (xs xs' : List Spot) (ks ks' : List ℕ) (i : ℕ) → below (length xs) ks → xs' ≡ xs → ks' ≡ take i ks → below (length xs') ks'
+below-cut-is xs xs' ks ks' i h e f = ap (λ (zs : List Spot). list_all (λ k. nat_lt k (length zs)) ks') e ∙ ap (list_all (λ k. nat_lt k (length xs))) f ∙ below-take (length xs) i ks h
+
+pub below-rest-is : (xs xs' : List Spot) (ks ks' : List ℕ) (i : ℕ) → below (length xs) ks → xs' ≡ xs → ks' ≡ drop i ks → below (length xs') ks'
+below-rest-is xs xs' ks ks' i h e f = ap (λ (zs : List Spot). list_all (λ k. nat_lt k (length zs)) ks') e ∙ ap (list_all (λ k. nat_lt k (length xs))) f ∙ below-drop (length xs) i ks h
+
+-- what `&ks[base..]` gives
+pub rest-is : (base : ℕ) (ks : List ℕ) → take (length ks - base) (drop base ks) ≡ drop base ks
+rest-is base ks = ap (λ n. take n (drop base ks)) (sym (length-drop base ks)) ∙ take-length (drop base ks)
+
+-- the last n trees and those before them, by their numbers
+module _ (us vs : List Value) (same : us ≡ vs) (ks front back : List ℕ) (base n : ℕ) (front_is : front ≡ take base ks) (back_is : back ≡ drop base ks) (place : base + n ≡ length ks) where
+  base-is : base ≡ length (trees_in vs ks) - n
+  base-is = omega (arith, length-map ks (λ k. get_or vs k Absent))
+
+  pub trees-front : trees_in us front ≡ but_last n (trees_in vs ks)
+  trees-front = ap (λ (zs : List Value). trees_in zs front) same ∙ ap (trees_in vs) front_is ∙ sym (take-map (λ k. get_or vs k Absent) base ks) ∙ ap (λ i. take i (trees_in vs ks)) base-is
+
+  pub trees-back : trees_in us back ≡ last n (trees_in vs ks)
+  trees-back = ap (λ (zs : List Value). trees_in zs back) same ∙ ap (trees_in vs) back_is ∙ sym (drop-map (λ k. get_or vs k Absent) base ks) ∙ ap (λ i. drop i (trees_in vs ks)) base-is

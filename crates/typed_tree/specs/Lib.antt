@@ -2,4 +2,5 @@ pub mod Parts
 pub mod Spots
 pub mod Pools
 pub mod Told
+pub mod Fields
 pub mod Trees

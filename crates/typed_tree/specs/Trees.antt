@@ -1,6 +1,6 @@
 -- The trees that a builder has made.
-use Rattle.std.specs.Prelude.{ℕ, ◌-◌, ◌<◌, List, [], ◌∷◌, length, take, drop, map, slice_index_or, vec_len, vec_capacity}
-use Rattle.frozen_model.specs.Values.{Value, Absent, Values, NoValue, And}
+use Rattle.std.specs.Prelude.{ℕ, ◌-◌, ◌<◌, List, length, take, drop, map, slice_index_or, vec_len, vec_capacity}
+use Rattle.frozen_model.specs.Values.{Value, Absent}
 use Rattle.typed_tree.specs.declared.builder.Builder.{Builder}
 use Rattle.typed_tree.specs.Pools.{values_of}
 
@@ -17,11 +17,6 @@ last n xs = drop (length xs - n) xs
 
 abbrev pub but_last : {A : Type 0} → ℕ → List A → List A
 but_last n xs = take (length xs - n) xs
-
--- values one after another
-abbrev pub row : List Value → Values
-row [] = NoValue
-row (v ∷ vs) = And v (row vs)
 
 -- there is room for one more node, and for its number
 pub record HasRoom (b : Builder) : Type 0 where

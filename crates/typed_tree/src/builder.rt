@@ -2,6 +2,7 @@
 ghost use Rattle.std.specs.Prelude.{◌≡◌, true, nat_lt, length};
 ghost use Rattle.std.specs.List.{list_all};
 
+use crate::fields::field_links;
 use crate::pool::Pool;
 use crate::spot::Spot;
 use crate::tree::Tree;
@@ -17,12 +18,14 @@ pub struct Builder {
 }
 
 impl Builder {
-    ghost use Rattle.std.specs.Prelude.{◌≤◌, ◌++◌, ◌∷◌, [], IfOk, OnOk, OnErr, map};
+    ghost use Rattle.std.specs.Prelude.{◌<◌, ◌≤◌, ◌≤ℤ◌, pos, All, ◌++◌, ◌∷◌, [], IfOk, OnOk, OnErr, map};
     ghost use Rattle.frozen_model.specs.Values.{Truth, Number, One, Bytes, Items, Absent, Present};
     ghost use Rattle.typed_tree.specs.Spots.{fits_at, value_of};
     ghost use Rattle.typed_tree.specs.Pools.{store_of, values_of};
     ghost use Rattle.typed_tree.specs.Told.{whole};
-    ghost use Rattle.typed_tree.specs.Trees.{trees, last, but_last, row, HasRoom};
+    ghost use Rattle.typed_tree.specs.Trees.{trees, last, but_last, HasRoom};
+    ghost use Rattle.typed_tree.specs.Parts.{row};
+    ghost use Rattle.typed_tree.specs.Fields.{natural, record_of};
 
     /// An empty stack.
     pub fn new(alloc: Global) -> Builder
@@ -112,6 +115,50 @@ impl Builder {
         let number = self.reserve()?;
         let at = self.pool.add_bytes(x)?;
         self.put(number, Spot::Bytes(at));
+        Ok(())
+    }
+
+    /// Puts an optional that is present, around the last tree.
+    pub fn present(&mut self) -> Result<(), AllocError>
+        requires { 0 < length (trees self.old) }
+        ensures wrapped { OnOk result (trees self.new ≡ but_last 1 (trees self.old) ++ map Present (last 1 (trees self.old))) }
+        ensures failed { OnErr result (trees self.new ≡ trees self.old) }
+    {
+        let number = self.reserve()?;
+        let base = self.stack.len() - 1;
+        let inner = self.stack[base];
+        self.stack.truncate(base);
+        self.put(number, Spot::Present(inner));
+        Ok(())
+    }
+
+    /// Puts a list of the last `n` trees.
+    pub fn list(&mut self, n: u64) -> Result<(), AllocError>
+        requires { n ≤ length (trees self.old) }
+        ensures joined { OnOk result (trees self.new ≡ but_last n (trees self.old) ++ Items (row (last n (trees self.old))) ∷ []) }
+        ensures failed { OnErr result (trees self.new ≡ trees self.old) }
+    {
+        let number = self.reserve()?;
+        let base = self.stack.len() - n as usize;
+        let run = self.pool.add_items(&self.stack[base..])?;
+        self.stack.truncate(base);
+        self.put(number, Spot::List(run));
+        Ok(())
+    }
+
+    /// Puts a struct of the last trees, the k-th of them under the k-th id. They may stand in any order.
+    pub fn structure(&mut self, ids: &[i16]) -> Result<(), AllocError>
+        requires natural { All (λ id. pos 0 ≤ℤ id) ids.now }
+        requires there { length ids.now ≤ length (trees self.old) }
+        ensures joined { OnOk result (trees self.new ≡ but_last (length ids.now) (trees self.old) ++ record_of (natural ids.now) (last (length ids.now) (trees self.old)) ∷ []) }
+        ensures failed { OnErr result (trees self.new ≡ trees self.old) }
+    {
+        let number = self.reserve()?;
+        let base = self.stack.len() - ids.len();
+        let fields = field_links(*self.stack.allocator(), ids, &self.stack[base..])?;
+        let run = self.pool.add_links(&fields)?;
+        self.stack.truncate(base);
+        self.put(number, Spot::Struct(run));
         Ok(())
     }
 

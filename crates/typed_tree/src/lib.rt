@@ -2,6 +2,7 @@
 #![tactic(auto)]
 
 mod builder;
+mod fields;
 mod items;
 mod number;
 mod pool;

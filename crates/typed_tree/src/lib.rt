@@ -12,3 +12,6 @@ mod tree;
 
 pub use builder::Builder;
 pub use tree::{Tree, TreeKind, TreeRef};
+
+#[cfg(test)]
+mod tests;

@@ -32,7 +32,7 @@ known-more st vs (y ∷ ys) x = known-more st (vs ++ value_of st vs y ∷ []) ys
 
 -- ---- more links, text and bytes
 
-pub range-stays : {A : Type 0} (xs more : List A) (first count : ℕ) → first + count ≤ length xs → take count (drop first (xs ++ more)) ≡ take count (drop first xs)
+range-stays : {A : Type 0} (xs more : List A) (first count : ℕ) → first + count ≤ length xs → take count (drop first (xs ++ more)) ≡ take count (drop first xs)
 range-stays xs more first count h =
     let room : count ≤ length (drop first xs) = omega (arith, length-drop first xs) in
     ap (take count) (drop-append-le first xs more (omega arith)) ∙ take-append-le count (drop first xs) more room
@@ -69,7 +69,7 @@ module _ (old new : Store) (grows : Grows old new) where
       let more = ap (λ (ls : List Link). length ls) grows.links in
       and_from _ _ (le-test (r.first + r.count) (length new.links) (omega (arith, there, more, length-append old.links grows.more_links))) (ap (list_all (λ l. nat_lt l.node n)) (linked-stays n r h) ∙ p.1)
 
-  pub value-stays : (vs : List Value) (n : ℕ) (x : Spot) → fits_at old n x ≡ true → value_of new vs x ≡ value_of old vs x
+  value-stays : (vs : List Value) (n : ℕ) (x : Spot) → fits_at old n x ≡ true → value_of new vs x ≡ value_of old vs x
   value-stays vs n (s.Flag b) h = refl
   value-stays vs n (s.Int z) h = refl
   value-stays vs n (s.Text at) h =
@@ -91,7 +91,7 @@ module _ (old new : Store) (grows : Grows old new) where
       let p = and_parts (fits_at old n x) (fits old (suc n) xs) h in
       ap (λ v. known new (vs ++ v ∷ []) xs) (value-stays vs n x p.0) ∙ known-stays (vs ++ value_of old vs x ∷ []) (suc n) xs p.1
 
-  pub fits_at-stays : (n : ℕ) (x : Spot) → fits_at old n x ≡ true → fits_at new n x ≡ true
+  fits_at-stays : (n : ℕ) (x : Spot) → fits_at old n x ≡ true → fits_at new n x ≡ true
   fits_at-stays n (s.Flag b) h = refl
   fits_at-stays n (s.Int z) h = refl
   fits_at-stays n (s.Text at) h =
@@ -121,7 +121,7 @@ fits-more st n (y ∷ ys) x h g =
     and_from _ _ p.0 (fits-more st (suc n) ys x p.1 (subst (λ (k : ℕ). fits_at st k x ≡ true) e g))
 
 -- what is known stays in front
-pub known-front : (st : Store) (vs : List Value) (xs : List Spot) (i : ℕ) → i < length vs → get_or (known st vs xs) i Absent ≡ get_or vs i Absent
+known-front : (st : Store) (vs : List Value) (xs : List Spot) (i : ℕ) → i < length vs → get_or (known st vs xs) i Absent ≡ get_or vs i Absent
 known-front st vs [] i h = refl
 known-front st vs (x ∷ xs) i h =
     known-front st (vs ++ value_of st vs x ∷ []) xs i (omega (arith, length-append vs (value_of st vs x ∷ []))) ∙ get_or-append vs (value_of st vs x ∷ []) Absent i h

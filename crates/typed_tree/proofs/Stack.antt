@@ -1,8 +1,8 @@
 -- The trees on a stack, as nodes and what they refer to grow.
 use Rattle.std.proofs.Common.{◌≡◌, ℕ, ◌+◌, ◌-◌, ◌<◌, ◌≤◌, zero, suc, List, [], ◌∷◌, ◌++◌, true, nat_lt, length, take, drop, map, get_or, refl, sym, ap, ◌∙◌, subst, arith, length-append, length-drop}
 use Rattle.std.specs.List.{list_all}
-use Rattle.std.proofs.Math.ListN.{get_or-append, get_or-map, drop_of_length-le}
-use Rattle.std.proofs.Math.Seq.{get_or-append_seam, drop-cons, take-length}
+use Rattle.std.proofs.Math.ListN.{get_or-append}
+use Rattle.std.proofs.Math.Seq.{get_or-append_seam, take-length}
 use Rattle.std.proofs.lemmas.Bool.{and_parts, and_from}
 use Rattle.std.proofs.lemmas.Bool.Decides.{nat_tests}
 use Rattle.std.proofs.lemmas.List.{map-append, length-map, take-map, drop-map}
@@ -23,21 +23,21 @@ below n ks = list_all (λ k. nat_lt k n) ks ≡ true
 lt-test : (m n : ℕ) → m < n → nat_lt m n ≡ true
 lt-test m n h = grind (arith, nat_tests)
 
-pub below-wider : (n m : ℕ) (ks : List ℕ) → n ≤ m → below n ks → below m ks
+below-wider : (n m : ℕ) (ks : List ℕ) → n ≤ m → below n ks → below m ks
 below-wider n m [] le h = refl
 below-wider n m (k ∷ ks) le h =
     let p = and_parts (nat_lt k n) (list_all (λ k. nat_lt k n) ks) h in
     and_from _ _ (lt-test k m (omega (arith, below-true k n p.0))) (below-wider n m ks le p.1)
 
-pub below-put : (n : ℕ) (ks : List ℕ) (k : ℕ) → k < n → below n ks → below n (ks ++ k ∷ [])
+below-put : (n : ℕ) (ks : List ℕ) (k : ℕ) → k < n → below n ks → below n (ks ++ k ∷ [])
 below-put n ks k lt h = list_all-append (λ j. nat_lt j n) ks (k ∷ []) ∙ and_from _ _ h (and_from _ _ (lt-test k n lt) refl)
 
-pub below-take : (n : ℕ) (i : ℕ) (ks : List ℕ) → below n ks → below n (take i ks)
+below-take : (n : ℕ) (i : ℕ) (ks : List ℕ) → below n ks → below n (take i ks)
 below-take n zero ks h = refl
 below-take n (suc i) [] h = refl
 below-take n (suc i) (k ∷ ks) h = let p = and_parts (nat_lt k n) (list_all (λ k. nat_lt k n) ks) h in and_from _ _ p.0 (below-take n i ks p.1)
 
-pub below-drop : (n : ℕ) (i : ℕ) (ks : List ℕ) → below n ks → below n (drop i ks)
+below-drop : (n : ℕ) (i : ℕ) (ks : List ℕ) → below n ks → below n (drop i ks)
 below-drop n zero ks h = h
 below-drop n (suc i) [] h = refl
 below-drop n (suc i) (k ∷ ks) h = below-drop n i ks (and_parts (nat_lt k n) (list_all (λ k. nat_lt k n) ks) h).1
@@ -50,7 +50,7 @@ trees-stay vs us (k ∷ ks) h =
     ap (λ v. v ∷ trees_in (vs ++ us) ks) (get_or-append vs us Absent k (below-true k (length vs) p.0)) ∙ ap (λ r. get_or vs k Absent ∷ r) (trees-stay vs us ks p.1)
 
 -- a node more, and its number on the stack
-pub trees-put : (st : Store) (xs : List Spot) (ks : List ℕ) (x : Spot) (n : ℕ) → below (length xs) ks → n ≡ length xs
+trees-put : (st : Store) (xs : List Spot) (ks : List ℕ) (x : Spot) (n : ℕ) → below (length xs) ks → n ≡ length xs
     → trees_in (values st (xs ++ x ∷ [])) (ks ++ n ∷ []) ≡ trees_in (values st xs) ks ++ value_of st (values st xs) x ∷ []
 trees-put st xs ks x n h e =
     let vs = values st xs in
@@ -91,12 +91,6 @@ put-on ts us vs v w e f g = cc
 pub items-fit : (st : Store) (n : ℕ) (r : Run) (ks : List ℕ) → r.first + r.count ≡ length st.links → linked st r ≡ map item_link ks → below n ks → all_linked st n r ≡ true
 items-fit st n r ks e f h =
     and_from _ _ (le-test (r.first + r.count) (length st.links) (omega (arith, e))) (ap (list_all (λ l. nat_lt l.node n)) f ∙ list_all-map (λ l. nat_lt l.node n) item_link ks ∙ h)
-
--- the last tree
-pub last-one : (f : ℕ → Value) (ks : List ℕ) (i d : ℕ) → suc i ≡ length ks → drop i (map f ks) ≡ f (get_or ks i d) ∷ []
-last-one f ks i d e =
-    let n : length (map f ks) ≡ length ks = length-map ks f in
-    drop-cons (map f ks) i (f d) (omega (arith, n, e)) ∙ ap (λ vs. get_or (map f ks) i (f d) ∷ vs) (drop_of_length-le (map f ks) {i = suc i} (omega (arith, n, e))) ∙ ap (λ v. v ∷ []) (get_or-map f ks i d)
 
 -- the first trees, where nodes stay
 pub below-cut-is : (xs xs' : List Spot) (ks ks' : List ℕ) (i : ℕ) → below (length xs) ks → xs' ≡ xs → ks' ≡ take i ks → below (length xs') ks'

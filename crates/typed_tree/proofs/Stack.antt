@@ -12,7 +12,7 @@ use Rattle.typed_tree.specs.declared.spot.Spot.{Spot}
 use Rattle.typed_tree.specs.declared.spot.Run.{Run}
 use Rattle.typed_tree.specs.Spots.{Store, linked, all_linked, item_link, pick, value_of, values, fits}
 use Rattle.typed_tree.specs.Pools.{Grows}
-use Rattle.typed_tree.specs.Parts.{row}
+use Rattle.key_order.specs.InOrder.{row}
 use Rattle.typed_tree.specs.Trees.{trees_in, last, but_last}
 use Rattle.typed_tree.proofs.Grow.{below-true, le-test, length-known, known-more, known-stays}
 
@@ -20,7 +20,7 @@ use Rattle.typed_tree.proofs.Grow.{below-true, le-test, length-known, known-more
 abbrev pub below : ℕ → List ℕ → Type 0
 below n ks = list_all (λ k. nat_lt k n) ks ≡ true
 
-lt-test : (m n : ℕ) → m < n → nat_lt m n ≡ true
+pub lt-test : (m n : ℕ) → m < n → nat_lt m n ≡ true
 lt-test m n h = grind (arith, nat_tests)
 
 below-wider : (n m : ℕ) (ks : List ℕ) → n ≤ m → below n ks → below m ks

@@ -12,7 +12,7 @@ use Rattle.idl_definitions.proofs.StableSort as stable
 use Rattle.typed_tree.specs.declared.spot.Link.{Link}
 use Rattle.typed_tree.specs.declared.spot.Run.{Run}
 use Rattle.typed_tree.specs.Spots.{Store, linked, all_linked, pick}
-use Rattle.typed_tree.specs.Parts.{row}
+use Rattle.key_order.specs.InOrder.{row}
 use Rattle.typed_tree.specs.Fields.{insert_by, in_order, record_of, natural, field_link}
 use Rattle.typed_tree.specs.Trees.{trees_in}
 use Rattle.typed_tree.proofs.Grow.{le-test}

@@ -2,7 +2,7 @@
 use Rattle.std.specs.Prelude.{ℕ, ℤ, List, [], ◌∷◌, nat_lt, map, zip, unsigned_abs, if◌then◌else◌}
 use Rattle.frozen_model.specs.Values.{Value, Record}
 use Rattle.typed_tree.specs.declared.spot.Link.{Link}
-use Rattle.typed_tree.specs.Parts.{row}
+use Rattle.key_order.specs.InOrder.{row}
 
 module _ {X : Type 0} (id : X → ℕ) where
   -- before the first whose id is not less

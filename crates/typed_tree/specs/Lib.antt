@@ -4,3 +4,4 @@ pub mod Pools
 pub mod Told
 pub mod Fields
 pub mod Trees
+pub mod Tables

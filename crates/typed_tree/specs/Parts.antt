@@ -41,11 +41,6 @@ abbrev pub IsPair : Value → Type 0
 IsPair (Record ids (And key (And value NoValue))) = ids ≡ 1 ∷ 2 ∷ []
 IsPair _ = ⊥
 
--- values one after another
-abbrev pub row : List Value → Values
-row [] = NoValue
-row (v ∷ vs) = And v (row vs)
-
 -- the items of a list, a set or a map
 abbrev pub items_of : Value → Values
 items_of (Items vs) = vs

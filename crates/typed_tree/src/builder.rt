@@ -2,7 +2,9 @@
 ghost use Rattle.std.specs.Prelude.{◌≡◌, true, nat_lt, length};
 ghost use Rattle.std.specs.List.{list_all};
 
+use crate::fault::TableFault;
 use crate::fields::field_links;
+use crate::order::keys_in_order;
 use crate::pool::Pool;
 use crate::spot::Spot;
 use crate::tree::Tree;
@@ -24,8 +26,10 @@ impl Builder {
     ghost use Rattle.typed_tree.specs.Pools.{store_of, values_of};
     ghost use Rattle.typed_tree.specs.Told.{whole};
     ghost use Rattle.typed_tree.specs.Trees.{trees, last, but_last, HasRoom};
-    ghost use Rattle.typed_tree.specs.Parts.{row};
     ghost use Rattle.typed_tree.specs.Fields.{natural, record_of};
+    ghost use Rattle.typed_tree.specs.Tables.{TellsRepeat};
+    ghost use Rattle.key_order.specs.Keys.{AreOneKind};
+    ghost use Rattle.key_order.specs.InOrder.{row, in_order};
 
     /// An empty stack.
     pub fn new(alloc: Global) -> Builder
@@ -143,6 +147,23 @@ impl Builder {
         let run = self.pool.add_items(&self.stack[base..])?;
         self.stack.truncate(base);
         self.put(number, Spot::List(run));
+        Ok(())
+    }
+
+    /// Puts a set of the last `n` trees, keys of one kind, in rising order.
+    pub fn set(&mut self, n: u64) -> Result<(), TableFault>
+        requires there { n ≤ length (trees self.old) }
+        requires kind { AreOneKind (last n (trees self.old)) }
+        ensures joined { OnOk result (trees self.new ≡ but_last n (trees self.old) ++ Items (row (in_order (last n (trees self.old)))) ∷ []) }
+        ensures repeated { TellsRepeat (last n (trees self.old)) result }
+        ensures failed { OnErr result (trees self.new ≡ trees self.old) }
+    {
+        let number = self.reserve()?;
+        let base = self.stack.len() - n as usize;
+        let nodes = keys_in_order(*self.stack.allocator(), &self.pool, &self.stack[base..])?;
+        let run = self.pool.add_items(&nodes)?;
+        self.stack.truncate(base);
+        self.put(number, Spot::Set(run));
         Ok(())
     }
 

@@ -2,15 +2,18 @@
 #![tactic(auto)]
 
 mod builder;
+mod fault;
 mod fields;
 mod items;
 mod number;
+mod order;
 mod pool;
 mod read;
 mod spot;
 mod tree;
 
 pub use builder::Builder;
+pub use fault::TableFault;
 pub use tree::{Tree, TreeKind, TreeRef};
 
 #[cfg(test)]

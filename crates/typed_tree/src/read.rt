@@ -3,6 +3,7 @@ ghost use Rattle.std.specs.Prelude.{◌≡◌, ◌↔◌, ◌<◌, ◌≤◌, �
 ghost use Rattle.std.specs.List.{list_all};
 ghost use Rattle.frozen_model.specs.Values.{Truth, Number, One, Bytes, Present, NoValue, count, nth};
 ghost use Rattle.idl_tokens.specs.Spans.{may_cut};
+ghost use Rattle.key_order.specs.Keys.{value_of as key_value, IsOneKind};
 ghost use Rattle.typed_tree.specs.Parts.{IsFlag, IsInt, IsText, IsBytes, IsItems, IsRecord, IsPresent, IsPair, pair, items_of, ids_of, fields_of, field_of};
 ghost use Rattle.typed_tree.specs.Spots.{part, pick, linked, all_linked, fits_at, value_of};
 ghost use Rattle.typed_tree.specs.Pools.{store_of, values_of};
@@ -12,6 +13,7 @@ use crate::pool::Pool;
 use crate::spot::{Link, Run, Spot};
 use crate::tree::{Tree, TreeKind, TreeRef};
 use idl_tokens::{Span, text_at};
+use key_order::Key;
 use std::str;
 
 // A part of the pool's text.
@@ -119,6 +121,21 @@ impl<'a> TreeRef<'a> {
             Spot::Text(at) => text_of(pool, at).as_bytes(),
             Spot::Bytes(at) => bytes_of(pool, at),
             _ => &[],
+        }
+    }
+
+    /// The key that a flag, a number, a text or bytes are.
+    pub fn key(self) -> Key<'a>
+        requires { IsOneKind (told self) (told self) }
+        ensures { key_value result ≡ told self.entry }
+    {
+        let pool = self.pool;
+        match self.spot() {
+            Spot::Flag(x) => Key::Flag(x),
+            Spot::Int(x) => Key::Number(x),
+            Spot::Text(at) => Key::Bytes(text_of(pool, at).as_bytes()),
+            Spot::Bytes(at) => Key::Bytes(bytes_of(pool, at)),
+            _ => Key::Bytes(&[]),
         }
     }
 

@@ -3,7 +3,7 @@ ghost use Rattle.std.specs.Prelude.{◌≡◌, ◌∷◌, [], IfOk, pos, negsuc,
 ghost use Rattle.frozen_model.specs.Values.{Truth, Number, One, Bytes, Items, Absent, Present, Record, NoValue, And};
 ghost use Rattle.typed_tree.specs.Told.{whole};
 
-use crate::{Builder, Tree, TreeKind};
+use crate::{Builder, TableFault, Tree, TreeKind};
 use std::alloc::{AllocError, Global};
 use std::test::Fail;
 
@@ -77,6 +77,36 @@ fn a_list(rt: HostRuntime) -> Result<(), Fail> {
     assert!(rt; !list.is_empty());
     assert_eq!(rt; list.item(0).int(), 1);
     assert_eq!(rt; list.item(1).int(), 2);
+    Ok(())
+}
+
+#[test]
+fn a_set(rt: HostRuntime) -> Result<(), Fail> {
+    let mut builder = Builder::new(rt.alloc());
+    builder.int(2)?;
+    builder.int(-1)?;
+    assert_eq!(rt; builder.set(2), Ok(()));
+    let tree = builder.finish();
+    let set = tree.top();
+    assert_eq!(rt; set.kind(), TreeKind::Set);
+    assert_eq!(rt; set.len(), 2);
+    assert_eq!(rt; set.item(0).int(), -1);
+    assert_eq!(rt; set.item(1).int(), 2);
+    Ok(())
+}
+
+#[test]
+fn a_key_that_repeats(rt: HostRuntime) -> Result<(), Fail> {
+    let mut builder = Builder::new(rt.alloc());
+    builder.text("b")?;
+    builder.bytes(b"b")?;
+    let repeat = TableFault::RepeatedKey {
+        first: 0,
+        second: 1,
+    };
+    assert_eq!(rt; builder.set(2), Err(repeat));
+    builder.list(2)?;
+    assert_eq!(rt; builder.finish().top().len(), 2);
     Ok(())
 }
 

@@ -2,7 +2,7 @@ use Rattle.std.proofs.Common.{◌≡◌, ◌∙◌, ◌+◌, ◌-◌, ap, length
 use Rattle.std.proofs.lemmas.List.{length-map}
 use Rattle.frozen_model.specs.Values.{Items, Absent}
 use Rattle.typed_tree.specs.Spots.{pick}
-use Rattle.typed_tree.specs.Parts.{row}
+use Rattle.key_order.specs.InOrder.{row}
 use Rattle.typed_tree.specs.Pools.{store_of, values_of}
 use Rattle.typed_tree.proofs.Stack.{values-stay, put-on, pick-items, items-fit, below-cut-is, below-rest-is, rest-is, trees-front, trees-back}
 use Rattle.typed_tree.proofs.builder.Builder.list.Goals as goal

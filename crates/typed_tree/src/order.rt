@@ -1,0 +1,80 @@
+//! Nodes by rising key.
+ghost use Rattle.std.specs.Prelude.{◌≡◌, ◌<◌, true, nat_lt, IfOk, All, length, map, slice_index};
+ghost use Rattle.std.specs.List.{list_all, enumerate_from};
+ghost use Rattle.key_order.specs.Keys.{AreOneKind};
+ghost use Rattle.key_order.specs.Entries.{places, placed};
+ghost use Rattle.key_order.specs.InOrder.{in_order};
+ghost use Rattle.typed_tree.specs.Pools.{values_of};
+ghost use Rattle.typed_tree.specs.Trees.{trees_in};
+ghost use Rattle.typed_tree.specs.Tables.{AreSorted, TellsRepeat};
+
+use crate::fault::TableFault;
+use crate::pool::Pool;
+use crate::tree::TreeRef;
+use key_order::{Entry, least_repeat};
+use std::alloc::{AllocError, Global};
+
+// The keys that nodes are, with their places from 0.
+fn key_entries<'a>(
+    alloc: Global,
+    pool: &'a Pool,
+    nodes: &[u32],
+) -> Result<Vec<Entry<'a>>, AllocError>
+    requires there { list_all (λ k. nat_lt k (length pool.now.nodes.items)) nodes.now ≡ true }
+    requires kind { AreOneKind (trees_in (values_of pool.now) nodes.now) }
+    ensures { IfOk result (λ es. placed es.items ≡ enumerate_from 0 (trees_in (values_of pool.now) nodes.now)) }
+{
+    let mut entries = Vec::new(alloc);
+    entries.reserve(nodes.len())?;
+    for node in nodes {
+        let place = entries.len() as u64;
+        let key = TreeRef { pool, node: *node }.key();
+        entries.push(Entry { key, place })?;
+    }
+    Ok(entries)
+}
+
+/// The keys that nodes are, with their places from 0, by rising key.
+pub fn sorted_entries<'a>(
+    alloc: Global,
+    pool: &'a Pool,
+    nodes: &[u32],
+) -> Result<Vec<Entry<'a>>, TableFault>
+    requires there { list_all (λ k. nat_lt k (length pool.now.nodes.items)) nodes.now ≡ true }
+    requires kind { AreOneKind (trees_in (values_of pool.now) nodes.now) }
+    ensures sorted { IfOk result (λ es. AreSorted (trees_in (values_of pool.now) nodes.now) es.items) }
+    ensures repeated { TellsRepeat (trees_in (values_of pool.now) nodes.now) result }
+{
+    let mut entries = key_entries(alloc, pool, nodes)?;
+    match least_repeat(entries.as_mut_slice()) {
+        None => Ok(entries),
+        Some(repeat) => Err(TableFault::RepeatedKey {
+            first: repeat.first,
+            second: repeat.second,
+        }),
+    }
+}
+
+// The nodes at the places of entries.
+fn nodes_at(alloc: Global, nodes: &[u32], entries: &[Entry<'_>]) -> Result<Vec<u32>, AllocError>
+    requires { All (λ e. e.place < length nodes.now) entries.now }
+    ensures { IfOk result (λ ks. ks.items ≡ map (λ e. slice_index nodes.now e.place) entries.now) }
+{
+    entries
+        .iter()
+        .map(|entry| nodes[entry.place as usize])
+        .collect(alloc)
+}
+
+/// The nodes by rising key, where each is its own key.
+pub fn keys_in_order(alloc: Global, pool: &Pool, nodes: &[u32]) -> Result<Vec<u32>, TableFault>
+    requires there { list_all (λ k. nat_lt k (length pool.now.nodes.items)) nodes.now ≡ true }
+    requires kind { AreOneKind (trees_in (values_of pool.now) nodes.now) }
+    ensures ordered { IfOk result (λ ks. trees_in (values_of pool.now) ks.items ≡ in_order (trees_in (values_of pool.now) nodes.now)) }
+    ensures still { IfOk result (λ ks. list_all (λ k. nat_lt k (length pool.now.nodes.items)) ks.items ≡ true) }
+    ensures repeated { TellsRepeat (trees_in (values_of pool.now) nodes.now) result }
+{
+    let entries = sorted_entries(alloc, pool, nodes)?;
+    let sorted = nodes_at(alloc, nodes, &entries)?;
+    Ok(sorted)
+}

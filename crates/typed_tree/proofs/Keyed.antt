@@ -4,7 +4,7 @@ use Rattle.std.specs.List.{All, AllByRecursion, Contains, enumerate_from}
 use Rattle.std.proofs.Math.ListN.{drop_of_length-le}
 use Rattle.std.proofs.Math.Seq.{take-length}
 use Rattle.std.proofs.lemmas.Bool.{and_from}
-use Rattle.std.proofs.lemmas.List.{append-nil, get_or-map, length-map, ext_get_or}
+use Rattle.std.proofs.lemmas.List.{append-nil, drop-map, get_or-map, length-map, ext_get_or}
 use Rattle.std.proofs.lemmas.List.Elements.{recursion_from_All}
 use Rattle.std.proofs.lemmas.List.FromFn.{length-enumerate_from, get_or-enumerate_from}
 use Rattle.std.proofs.lemmas.List.Sorted.{All-permutation}
@@ -12,20 +12,21 @@ use Rattle.std.proofs.lemmas.List.Sums.{AllPass-from_list_all}
 use Rattle.frozen_model.specs.Values.{Value, One, Bytes, Items, Absent, Present, Record, key_of}
 use Rattle.key_order.specs.declared.repeats.Entry.{Entry}
 use Rattle.key_order.specs.Keys.{value_of, IsOneKind, AreOneKind}
-use Rattle.key_order.specs.Entries.{placed}
+use Rattle.key_order.specs.Entries.{places, placed}
 use Rattle.key_order.specs.InOrder.{in_order}
 use Rattle.key_order.proofs.Items.{entries_are_in_order}
 use Rattle.key_order.proofs.Numbered.{numbered_places_differ}
 use Rattle.key_order.proofs.Sorted.{at}
 use Rattle.typed_tree.specs.declared.builder.Builder.{Builder}
+use Rattle.typed_tree.specs.declared.pool.Pool.{Pool}
 use Rattle.typed_tree.specs.Pools.{store_of, values_of}
 use Rattle.typed_tree.specs.Spots.{Store, values}
-use Rattle.typed_tree.specs.Tables.{AreSorted}
+use Rattle.typed_tree.specs.Tables.{AreSorted, AreOrdered, picked}
 use Rattle.typed_tree.specs.Trees.{trees_in, trees, last}
 use Rattle.typed_tree.proofs.Grow.{below-true}
 use Rattle.typed_tree.proofs.Stack.{below, lt-test, rest-is, trees-back}
 
-below-at : (n : ℕ) (ks : List ℕ) (i d : ℕ) → below n ks → i < length ks → get_or ks i d < n
+pub below-at : (n : ℕ) (ks : List ℕ) (i d : ℕ) → below n ks → i < length ks → get_or ks i d < n
 below-at n ks i d h lt = below-true (get_or ks i d) n (AllPass-from_list_all (λ k. nat_lt k n) ks h i d lt)
 
 pub tree-at : (vs : List Value) (ks : List ℕ) (i d : ℕ) → i < length ks → get_or (trees_in vs ks) i Absent ≡ get_or vs (get_or ks i d) Absent
@@ -113,6 +114,22 @@ module _ (ks : List ℕ) where
   pub below-places : (n : ℕ) (es : List Entry) → All (λ e. e.place < length ks) es → below n ks → below n (nodes-at es)
   below-places n es h = below-each n es (recursion_from_All (λ e. e.place < length ks) es h)
 
+-- ---- the places of sorted entries
+
+picked-each : (us : List Value) (es : List Entry) → picked us (places es) ≡ map (λ e. get_or us e.place Absent) es
+picked-each us [] = refl
+picked-each us (e ∷ es) = ap (λ vs. get_or us e.place Absent ∷ vs) (picked-each us es)
+
+pub places-ordered : (ks : List Value) (es : List Entry) → AreOneKind ks → AreSorted ks es → AreOrdered ks (places es)
+places-ordered ks es kind sorted = record {
+  inside =
+      let low = places-inside ks ks es (own-keys ks kind) sorted in
+      λ i d lt.
+      let there : i < length es = omega (arith, lt, length-map es (λ (e : Entry). e.place)) in
+      subst (λ (p : ℕ). p < length ks) (sym (get_or-map (λ (e : Entry). e.place) es i (at es i) d there)) (low i (at es i) there);
+  in_turn = λ us keyed. picked-each us es ∙ items-in-order us ks es keyed sorted kind;
+}
+
 -- ---- the nodes of a set
 
 module _ (vs : List Value) (ks : List ℕ) (es : List Entry) (kind : AreOneKind (trees_in vs ks)) (sorted : AreSorted (trees_in vs ks) es) where
@@ -134,3 +151,7 @@ stack-keys b d len n ks store nodes stack e l h =
     let same = ap (λ (s : Store). values s d.pool.nodes.items) store ∙ ap (values (store_of b.pool)) nodes in
     let place : len - n + n ≡ length b.stack.items = omega (arith, l, h, d.stack.ok.0, ap (λ zs. length zs) stack, length-map b.stack.items (λ k. get_or (values_of b.pool) k Absent)) in
     trees-back (values_of d.pool) (values_of b.pool) same b.stack.items (take (len - n) b.stack.items) _ (len - n) n refl (rest-is (len - n) ks ∙ ap (drop (len - n)) (e ∙ stack)) place
+
+-- the trees from a place on, as `&stack[base..]` gives them
+pub trees-from : (p : Pool) (stack : List ℕ) (base : ℕ) (ks : List ℕ) → ks ≡ stack → trees_in (values_of p) (take (length ks - base) (drop base ks)) ≡ drop base (trees_in (values_of p) stack)
+trees-from p stack base ks e = ap (trees_in (values_of p)) (rest-is base ks ∙ ap (drop base) e) ∙ sym (drop-map (λ k. get_or (values_of p) k Absent) base stack)

@@ -23,13 +23,13 @@ below n ks = list_all (λ k. nat_lt k n) ks ≡ true
 pub lt-test : (m n : ℕ) → m < n → nat_lt m n ≡ true
 lt-test m n h = grind (arith, nat_tests)
 
-below-wider : (n m : ℕ) (ks : List ℕ) → n ≤ m → below n ks → below m ks
+pub below-wider : (n m : ℕ) (ks : List ℕ) → n ≤ m → below n ks → below m ks
 below-wider n m [] le h = refl
 below-wider n m (k ∷ ks) le h =
     let p = and_parts (nat_lt k n) (list_all (λ k. nat_lt k n) ks) h in
     and_from _ _ (lt-test k m (omega (arith, below-true k n p.0))) (below-wider n m ks le p.1)
 
-below-put : (n : ℕ) (ks : List ℕ) (k : ℕ) → k < n → below n ks → below n (ks ++ k ∷ [])
+pub below-put : (n : ℕ) (ks : List ℕ) (k : ℕ) → k < n → below n ks → below n (ks ++ k ∷ [])
 below-put n ks k lt h = list_all-append (λ j. nat_lt j n) ks (k ∷ []) ∙ and_from _ _ h (and_from _ _ (lt-test k n lt) refl)
 
 below-take : (n : ℕ) (i : ℕ) (ks : List ℕ) → below n ks → below n (take i ks)
@@ -43,24 +43,27 @@ below-drop n (suc i) [] h = refl
 below-drop n (suc i) (k ∷ ks) h = below-drop n i ks (and_parts (nat_lt k n) (list_all (λ k. nat_lt k n) ks) h).1
 
 -- more nodes leave the trees
-trees-stay : (vs us : List Value) (ks : List ℕ) → below (length vs) ks → trees_in (vs ++ us) ks ≡ trees_in vs ks
+pub trees-stay : (vs us : List Value) (ks : List ℕ) → below (length vs) ks → trees_in (vs ++ us) ks ≡ trees_in vs ks
 trees-stay vs us [] h = refl
 trees-stay vs us (k ∷ ks) h =
     let p = and_parts (nat_lt k (length vs)) (list_all (λ k. nat_lt k (length vs)) ks) h in
     ap (λ v. v ∷ trees_in (vs ++ us) ks) (get_or-append vs us Absent k (below-true k (length vs) p.0)) ∙ ap (λ r. get_or vs k Absent ∷ r) (trees-stay vs us ks p.1)
+
+-- a value more, and its number on the stack
+pub push-tree : (vs : List Value) (ks : List ℕ) (v : Value) (n : ℕ) → below (length vs) ks → n ≡ length vs → trees_in (vs ++ v ∷ []) (ks ++ n ∷ []) ≡ trees_in vs ks ++ v ∷ []
+push-tree vs ks v n h e =
+    map-append (λ k. get_or (vs ++ v ∷ []) k Absent) ks (n ∷ [])
+    ∙ ap (λ r. r ++ get_or (vs ++ v ∷ []) n Absent ∷ []) (trees-stay vs (v ∷ []) ks h)
+    ∙ ap (λ k. trees_in vs ks ++ get_or (vs ++ v ∷ []) k Absent ∷ []) e
+    ∙ ap (λ w. trees_in vs ks ++ w ∷ []) (get_or-append_seam vs v [] Absent)
 
 -- a node more, and its number on the stack
 trees-put : (st : Store) (xs : List Spot) (ks : List ℕ) (x : Spot) (n : ℕ) → below (length xs) ks → n ≡ length xs
     → trees_in (values st (xs ++ x ∷ [])) (ks ++ n ∷ []) ≡ trees_in (values st xs) ks ++ value_of st (values st xs) x ∷ []
 trees-put st xs ks x n h e =
     let vs = values st xs in
-    let v = value_of st vs x in
     let len : length vs ≡ length xs = omega (arith, length-known st [] xs) in
-    ap (λ (us : List Value). trees_in us (ks ++ n ∷ [])) (known-more st [] xs x)
-    ∙ map-append (λ k. get_or (vs ++ v ∷ []) k Absent) ks (n ∷ [])
-    ∙ ap (λ r. r ++ get_or (vs ++ v ∷ []) n Absent ∷ []) (trees-stay vs (v ∷ []) ks (ap (λ k. list_all (λ j. nat_lt j k) ks) len ∙ h))
-    ∙ ap (λ k. trees_in vs ks ++ get_or (vs ++ v ∷ []) k Absent ∷ []) (e ∙ sym len)
-    ∙ ap (λ w. trees_in vs ks ++ w ∷ []) (get_or-append_seam vs v [] Absent)
+    ap (λ (us : List Value). trees_in us (ks ++ n ∷ [])) (known-more st [] xs x) ∙ push-tree vs ks (value_of st vs x) n (ap (λ k. list_all (λ j. nat_lt j k) ks) len ∙ h) (e ∙ sym len)
 
 -- the values that links to trees name
 pub pick-items : (vs : List Value) (ks : List ℕ) → pick vs (map item_link ks) ≡ row (trees_in vs ks)

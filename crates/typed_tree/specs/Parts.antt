@@ -41,6 +41,11 @@ abbrev pub IsPair : Value → Type 0
 IsPair (Record ids (And key (And value NoValue))) = ids ≡ 1 ∷ 2 ∷ []
 IsPair _ = ⊥
 
+-- keys and values by turns, as the entries of a map
+abbrev pub pairs : List Value → List Value
+pairs (key ∷ value ∷ vs) = pair key value ∷ pairs vs
+pairs _ = []
+
 -- the items of a list, a set or a map
 abbrev pub items_of : Value → Values
 items_of (Items vs) = vs

@@ -22,3 +22,8 @@ pub record Grows (old new : Store) : Type 0 where
   pub text : new.text ≡ old.text ++ more_text
   pub bytes : new.bytes ≡ old.bytes ++ more_bytes
   pub begins : may_begin more_text ≡ true
+
+-- the nodes that were there have the values that they had
+pub record Keeps (old new : Pool) : Type 0 where
+  pub more_values : List Value
+  pub values : values_of new ≡ values_of old ++ more_values

@@ -1,12 +1,13 @@
 -- Keys that become those of a set or a map.
-use Rattle.std.specs.Prelude.{◌≡◌, ◌≢◌, List, Result, MatchResult, AllPairs}
+use Rattle.std.specs.Prelude.{◌≡◌, ◌≢◌, ℕ, ◌<◌, List, [], ◌∷◌, length, map, slice_index_or, Result, MatchResult, AllPairs, All}
 use Rattle.std.specs.List.{enumerate_from}
 use Rattle.std.specs.List.Sorted.{IsPermutation}
-use Rattle.frozen_model.specs.Values.{Value}
+use Rattle.frozen_model.specs.Values.{Value, Absent, key_of}
 use Rattle.key_order.specs.declared.repeats.Entry.{Entry}
 use Rattle.key_order.specs.Keys.{AreRising}
 use Rattle.key_order.specs.Entries.{keys, placed}
 use Rattle.key_order.specs.Repeats.{IsLeastRepeat}
+use Rattle.key_order.specs.InOrder.{in_order}
 use Rattle.typed_tree.specs.declared.fault.TableFault.{TableFault}
 use Rattle.typed_tree.specs.declared.fault.TableFault.TheVariants.{RepeatedKey, NoMemory}
 
@@ -25,3 +26,17 @@ pub record AreSorted (ks : List Value) (es : List Entry) : Type 0 where
   pub numbers : placed numbered ≡ enumerate_from 0 ks
   pub moved : IsPermutation numbered es
   pub rising : AreRising (keys es)
+
+-- the values at these places
+abbrev pub picked : List Value → List ℕ → List Value
+picked us ps = map (λ p. slice_index_or us p Absent) ps
+
+-- places by which any values with these keys are in order
+pub record AreOrdered (ks : List Value) (ps : List ℕ) : Type 0 where
+  pub inside : All (λ p. p < length ks) ps
+  pub in_turn : (us : List Value) → map key_of us ≡ ks → picked us ps ≡ in_order us
+
+-- the first, the third and so on
+abbrev pub evens : List ℕ → List ℕ
+evens (k ∷ v ∷ ks) = k ∷ evens ks
+evens _ = []

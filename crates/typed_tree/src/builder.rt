@@ -2,6 +2,7 @@
 ghost use Rattle.std.specs.Prelude.{◌≡◌, true, nat_lt, length};
 ghost use Rattle.std.specs.List.{list_all};
 
+use crate::entries::entries_in_order;
 use crate::fault::TableFault;
 use crate::fields::field_links;
 use crate::order::keys_in_order;
@@ -20,14 +21,15 @@ pub struct Builder {
 }
 
 impl Builder {
-    ghost use Rattle.std.specs.Prelude.{◌<◌, ◌≤◌, ◌≤ℤ◌, pos, All, ◌++◌, ◌∷◌, [], IfOk, OnOk, OnErr, map};
-    ghost use Rattle.frozen_model.specs.Values.{Truth, Number, One, Bytes, Items, Absent, Present};
+    ghost use Rattle.std.specs.Prelude.{◌<◌, ◌≤◌, ◌*◌, ◌≤ℤ◌, pos, All, ◌++◌, ◌∷◌, [], IfOk, OnOk, OnErr, map, drop};
+    ghost use Rattle.frozen_model.specs.Values.{Truth, Number, One, Bytes, Items, Absent, Present, key_of};
     ghost use Rattle.typed_tree.specs.Spots.{fits_at, value_of};
     ghost use Rattle.typed_tree.specs.Pools.{store_of, values_of};
     ghost use Rattle.typed_tree.specs.Told.{whole};
-    ghost use Rattle.typed_tree.specs.Trees.{trees, last, but_last, HasRoom};
+    ghost use Rattle.typed_tree.specs.Trees.{trees_in, trees, last, but_last, HasRoom};
     ghost use Rattle.typed_tree.specs.Fields.{natural, record_of};
     ghost use Rattle.typed_tree.specs.Tables.{TellsRepeat};
+    ghost use Rattle.typed_tree.specs.Parts.{pairs};
     ghost use Rattle.key_order.specs.Keys.{AreOneKind};
     ghost use Rattle.key_order.specs.InOrder.{row, in_order};
 
@@ -164,6 +166,36 @@ impl Builder {
         let run = self.pool.add_items(&nodes)?;
         self.stack.truncate(base);
         self.put(number, Spot::Set(run));
+        Ok(())
+    }
+
+    // Adds nodes for the entries that the trees from `base` on make, and gives them by rising key.
+    fn add_entries(&mut self, base: usize) -> Result<Vec<u32>, TableFault>
+        requires there { base ≤ length (trees self.old) }
+        requires kind { AreOneKind (map key_of (pairs (drop base (trees self.old)))) }
+        ensures trees { trees self.new ≡ trees self.old }
+        ensures stack { self.new.stack.items ≡ self.old.stack.items }
+        ensures ordered { IfOk result (λ ks. trees_in (values_of self.new.pool) ks.items ≡ in_order (pairs (drop base (trees self.old)))) }
+        ensures still { IfOk result (λ ks. list_all (λ k. nat_lt k (length self.new.pool.nodes.items)) ks.items ≡ true) }
+        ensures repeated { TellsRepeat (map key_of (pairs (drop base (trees self.old)))) result }
+    {
+        entries_in_order(*self.stack.allocator(), &mut self.pool, &self.stack[base..])
+    }
+
+    /// Puts a map of the last `n` keys and values by turns, each key before its value, in rising order of the keys, which are of one kind.
+    pub fn map(&mut self, n: u64) -> Result<(), TableFault>
+        requires there { 2 * n ≤ length (trees self.old) }
+        requires kind { AreOneKind (map key_of (pairs (last (2 * n) (trees self.old)))) }
+        ensures joined { OnOk result (trees self.new ≡ but_last (2 * n) (trees self.old) ++ Items (row (in_order (pairs (last (2 * n) (trees self.old))))) ∷ []) }
+        ensures repeated { TellsRepeat (map key_of (pairs (last (2 * n) (trees self.old)))) result }
+        ensures failed { OnErr result (trees self.new ≡ trees self.old) }
+    {
+        let base = self.stack.len() - 2 * n as usize;
+        let nodes = self.add_entries(base)?;
+        let number = self.reserve()?;
+        let run = self.pool.add_items(&nodes)?;
+        self.stack.truncate(base);
+        self.put(number, Spot::Map(run));
         Ok(())
     }
 

@@ -6,7 +6,7 @@ ghost use Rattle.key_order.specs.Entries.{places, placed};
 ghost use Rattle.key_order.specs.InOrder.{in_order};
 ghost use Rattle.typed_tree.specs.Pools.{values_of};
 ghost use Rattle.typed_tree.specs.Trees.{trees_in};
-ghost use Rattle.typed_tree.specs.Tables.{AreSorted, TellsRepeat};
+ghost use Rattle.typed_tree.specs.Tables.{AreSorted, AreOrdered, TellsRepeat};
 
 use crate::fault::TableFault;
 use crate::pool::Pool;
@@ -34,8 +34,8 @@ fn key_entries<'a>(
     Ok(entries)
 }
 
-/// The keys that nodes are, with their places from 0, by rising key.
-pub fn sorted_entries<'a>(
+// The keys that nodes are, with their places from 0, by rising key.
+fn sorted_entries<'a>(
     alloc: Global,
     pool: &'a Pool,
     nodes: &[u32],
@@ -77,4 +77,22 @@ pub fn keys_in_order(alloc: Global, pool: &Pool, nodes: &[u32]) -> Result<Vec<u3
     let entries = sorted_entries(alloc, pool, nodes)?;
     let sorted = nodes_at(alloc, nodes, &entries)?;
     Ok(sorted)
+}
+
+/// The places of the keys that nodes are, by rising key.
+pub fn places_in_order(alloc: Global, pool: &Pool, keys: &[u32]) -> Result<Vec<u64>, TableFault>
+    requires there { list_all (λ k. nat_lt k (length pool.now.nodes.items)) keys.now ≡ true }
+    requires kind { AreOneKind (trees_in (values_of pool.now) keys.now) }
+    ensures ordered { IfOk result (λ ps. AreOrdered (trees_in (values_of pool.now) keys.now) ps.items) }
+    ensures repeated { TellsRepeat (trees_in (values_of pool.now) keys.now) result }
+{
+    let entries = sorted_entries(alloc, pool, keys)?;
+    let sorted = places_of(alloc, &entries)?;
+    Ok(sorted)
+}
+
+fn places_of(alloc: Global, entries: &[Entry<'_>]) -> Result<Vec<u64>, AllocError>
+    ensures { IfOk result (λ ps. ps.items ≡ places entries.now) }
+{
+    entries.iter().map(|entry| entry.place).collect(alloc)
 }

@@ -24,7 +24,9 @@ impl Pool {
     ghost use Rattle.std.specs.List.{list_all};
     ghost use Rattle.idl_tokens.specs.Spans.{may_cut};
     ghost use Rattle.typed_tree.specs.Spots.{fits_at, part, linked, all_linked, item_link};
-    ghost use Rattle.typed_tree.specs.Pools.{store_of, Grows};
+    ghost use Rattle.typed_tree.specs.Pools.{store_of, values_of, Grows};
+    ghost use Rattle.typed_tree.specs.Parts.{pair};
+    ghost use Rattle.typed_tree.specs.Told.{value_at};
 
     /// A pool without nodes.
     pub fn new(alloc: Global) -> Pool
@@ -115,5 +117,20 @@ impl Pool {
         self.links.reserve(nodes.len())?;
         push_items(&mut self.links, nodes);
         Ok(Run { first, count })
+    }
+
+    /// Adds an entry of a map, and gives the number of its node.
+    pub fn add_pair(&mut self, key: u32, value: u32) -> Result<u32, AllocError>
+        requires key { key < length self.old.nodes.items }
+        requires value { value < length self.old.nodes.items }
+        ensures number { IfOk result (λ n. n ≡ length self.old.nodes.items) }
+        ensures added { OnOk result (values_of self.new ≡ values_of self.old ++ pair (value_at self.old key) (value_at self.old value) ∷ []) }
+        ensures failed { OnErr result (values_of self.new ≡ values_of self.old) }
+    {
+        let number = self.reserve()?;
+        let links = [Link { id: 1, node: key }, Link { id: 2, node: value }];
+        let run = self.add_links(&links)?;
+        self.put(Spot::Struct(run));
+        Ok(number)
     }
 }

@@ -96,6 +96,24 @@ fn a_set(rt: HostRuntime) -> Result<(), Fail> {
 }
 
 #[test]
+fn a_map(rt: HostRuntime) -> Result<(), Fail> {
+    let mut builder = Builder::new(rt.alloc());
+    builder.int(2)?;
+    builder.flag(false)?;
+    builder.int(1)?;
+    builder.flag(true)?;
+    assert_eq!(rt; builder.map(2), Ok(()));
+    let tree = builder.finish();
+    let map = tree.top();
+    assert_eq!(rt; map.kind(), TreeKind::Map);
+    assert_eq!(rt; map.len(), 2);
+    let (key, value) = map.entry(0);
+    assert_eq!(rt; key.int(), 1);
+    assert!(rt; value.flag());
+    Ok(())
+}
+
+#[test]
 fn a_key_that_repeats(rt: HostRuntime) -> Result<(), Fail> {
     let mut builder = Builder::new(rt.alloc());
     builder.text("b")?;

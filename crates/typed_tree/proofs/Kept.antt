@@ -1,8 +1,7 @@
 -- Pools whose nodes keep their values.
-use Rattle.std.proofs.Common.{◌≡◌, ℕ, ◌<◌, ◌≤◌, List, [], ◌++◌, nat_lt, length, get_or, sym, ap, ◌∙◌, arith, length-append, append_assoc}
+use Rattle.std.proofs.Common.{◌≡◌, ℕ, ◌<◌, ◌≤◌, List, [], ◌++◌, nat_lt, length, get_or, ap, ◌∙◌, arith, length-append, append_assoc}
 use Rattle.std.specs.List.{list_all}
 use Rattle.std.proofs.Math.ListN.{get_or-append}
-use Rattle.std.proofs.lemmas.List.{append-nil}
 use Rattle.frozen_model.specs.Values.{Value, Absent}
 use Rattle.typed_tree.specs.declared.pool.Pool.{Pool}
 use Rattle.typed_tree.specs.Pools.{store_of, values_of, Keeps}
@@ -13,9 +12,6 @@ use Rattle.typed_tree.proofs.Stack.{below, below-wider, trees-stay}
 
 pub as-many-values : (p : Pool) → length (values_of p) ≡ length p.nodes.items
 as-many-values p = omega (arith, length-known (store_of p) [] p.nodes.items)
-
-pub keeps-same : (old new : Pool) → values_of new ≡ values_of old → Keeps old new
-keeps-same old new e = record { more_values = []; values = e ∙ sym (append-nil (values_of old)) }
 
 pub keeps-more : (old mid new : Pool) (vs : List Value) → Keeps old mid → values_of new ≡ values_of mid ++ vs → Keeps old new
 keeps-more old mid new vs keeps e = record { more_values = keeps.more_values ++ vs; values = e ∙ ap (λ us. us ++ vs) keeps.values ∙ append_assoc (values_of old) keeps.more_values vs }

@@ -15,6 +15,7 @@ mod tree;
 
 pub use builder::Builder;
 pub use fault::TableFault;
+pub use read::compare_keys;
 pub use tree::{Tree, TreeKind, TreeRef};
 
 #[cfg(test)]

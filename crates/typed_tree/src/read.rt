@@ -1,7 +1,7 @@
 //! The accessors of trees. None takes memory, and none walks more than the node that it reads.
 ghost use Rattle.std.specs.Prelude.{◌≡◌, ◌↔◌, ◌<◌, ◌≤◌, ◌+◌, ◌^◌, length, map, true, IsTrue, nat_lt, string_bytes, option_map};
 ghost use Rattle.std.specs.List.{list_all};
-ghost use Rattle.frozen_model.specs.Values.{Truth, Number, One, Bytes, Present, NoValue, count, nth};
+ghost use Rattle.frozen_model.specs.Values.{Truth, Number, One, Bytes, Present, NoValue, count, nth, key_less};
 ghost use Rattle.idl_tokens.specs.Spans.{may_cut};
 ghost use Rattle.key_order.specs.Keys.{value_of as key_value, IsOneKind};
 ghost use Rattle.typed_tree.specs.Parts.{IsFlag, IsInt, IsText, IsBytes, IsItems, IsRecord, IsPresent, IsPair, pair, items_of, ids_of, fields_of, field_of};
@@ -14,6 +14,7 @@ use crate::spot::{Link, Run, Spot};
 use crate::tree::{Tree, TreeKind, TreeRef};
 use idl_tokens::{Span, text_at};
 use key_order::Key;
+use std::cmp::Ordering;
 use std::str;
 
 // A part of the pool's text.
@@ -250,4 +251,14 @@ impl<'a> TreeRef<'a> {
         }
         None
     }
+}
+
+/// How two keys of one kind stand to each other: false is before true, numbers go by size, and texts and bytes byte by byte.
+pub fn compare_keys(a: TreeRef<'_>, b: TreeRef<'_>) -> Ordering
+    requires { IsOneKind (told a) (told b) }
+    ensures less { (result ≡ Ordering.Less) ↔ (key_less (told a.entry) (told b.entry) ≡ true) }
+    ensures equal { (result ≡ Ordering.Equal) ↔ (told a.entry ≡ told b.entry) }
+    ensures greater { (result ≡ Ordering.Greater) ↔ (key_less (told b.entry) (told a.entry) ≡ true) }
+{
+    key_order::compare_keys(a.key(), b.key())
 }

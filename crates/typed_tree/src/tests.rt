@@ -3,8 +3,9 @@ ghost use Rattle.std.specs.Prelude.{◌≡◌, ◌∷◌, [], IfOk, pos, negsuc,
 ghost use Rattle.frozen_model.specs.Values.{Truth, Number, One, Bytes, Items, Absent, Present, Record, NoValue, And};
 ghost use Rattle.typed_tree.specs.Told.{whole};
 
-use crate::{Builder, TableFault, Tree, TreeKind};
+use crate::{Builder, TableFault, Tree, TreeKind, compare_keys};
 use std::alloc::{AllocError, Global};
+use std::cmp::Ordering;
 use std::test::Fail;
 
 #[test]
@@ -92,6 +93,7 @@ fn a_set(rt: HostRuntime) -> Result<(), Fail> {
     assert_eq!(rt; set.len(), 2);
     assert_eq!(rt; set.item(0).int(), -1);
     assert_eq!(rt; set.item(1).int(), 2);
+    assert!(rt; compare_keys(set.item(0), set.item(1)) == Ordering::Less);
     Ok(())
 }
 

@@ -8,11 +8,11 @@ use Rattle.exact_reading.specs.declared.stop.ReadError.{ReadError}
 use Rattle.exact_reading.specs.declared.stop.ReadError.TheVariants as errors
 use Rattle.exact_reading.specs.Reading.{Read, Fails}
 use Rattle.exact_reading.specs.Exact.{Exact}
-use Rattle.exact_reading.specs.Causes.{IsTruncated, IsMalformed, IsTrailing, Answers}
+use Rattle.exact_reading.specs.Causes.{IsTruncated, IsMalformed, IsTrailing, IsCaused}
 use Rattle.exact_reading.proofs.Items.{append-cancel, cut_of}
 use Rattle.exact_reading.proofs.Combinators.{prefix_free}
 
-module _ {Item A : Type 0} (Admitted : Item → Type 0) (S : A → List Item → Type 0) (read : Read Item A) (exact : (n : ℕ) → Exact Admitted n S read) where
+module _ {Item A : Type 0} (Admitted : Item → Type 0) (S : A → List Item → Type 0) (read : Read Item A Stop) (exact : (n : ℕ) → Exact Admitted n S read) where
   -- ---- the law on texts
 
   pub no_prefix : (x y : A) (t u r s : List Item) → S x t → S y u → t ++ r ≡ u ++ s → (x ≡ y) × (t ≡ u) × (r ≡ s)
@@ -72,12 +72,12 @@ module _ {Item A : Type 0} (Admitted : Item → Type 0) (S : A → List Item →
       let len : length b ≡ length s.0 + suc (length rest) = ap length s.2 ∙ length-append s.0 (c ∷ rest) in
       record { value = x; front = s.0; item = c; after = rest; parts = s.2; place = omega arith; spelled = s.1 }
 
-  answer_is : (b : List Item) (r : Result (A × List Item) Stop) → AllByRecursion Admitted b → read b ≡ r → Answers S b r
+  answer_is : (b : List Item) (r : Result (A × List Item) Stop) → AllByRecursion Admitted b → read b ≡ r → IsCaused S b r
   answer_is b (Ok (x, rest)) h e = read_sound b x rest h e
   answer_is b (Err Ended) h e = ended_is b h e
   answer_is b (Err (Refused left)) h e = refused_is b left h e
 
-  pub answers : (b : List Item) → AllByRecursion Admitted b → Answers S b (read b)
+  pub answers : (b : List Item) → AllByRecursion Admitted b → IsCaused S b (read b)
   answers b h = answer_is b (read b) h refl
 
   pub nothing_follows : (x y : A) (t rest : List Item) → S x t → S y (t ++ rest) → rest ≡ []
@@ -149,6 +149,6 @@ module _ {Item A : Type 0} (Admitted : Item → Type 0) (S : A → List Item →
 
 -- ---- a function's error, and the reader's
 
-pub stop_is : {Y : Type 0} (e : ReadError) (f d : Stop) (read : Result Y Stop) → e ≡ errors.Stop f → f ≡ d → Fails e read → read ≡ Err d
-stop_is errors.Memory f d read e g h = absurd cc
+pub stop_is : {Y : Type 0} (e : ReadError Stop) (f d : Stop) (read : Result Y Stop) → e ≡ errors.Stop f → f ≡ d → Fails e read → read ≡ Err d
+stop_is errors.NoMemory f d read e g h = absurd cc
 stop_is (errors.Stop c) f d read e g h = let same : c ≡ d = cc in h ∙ ap Err same

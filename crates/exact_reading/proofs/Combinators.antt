@@ -10,7 +10,7 @@ use Rattle.exact_reading.proofs.Items.{admitted-back, admitted-append, bind_ok, 
 
 module _ {Item : Type 0} (Admitted : Item → Type 0) where
   -- No text begins another.
-  pub prefix_free : {A : Type 0} (S : A → List Item → Type 0) (read : ℕ → Read Item A) → ((n : ℕ) → Exact Admitted n S (read n)) → (x y : A) (t u r s : List Item) → S x t → S y u → t ++ r ≡ u ++ s → (x ≡ y) × (t ≡ u) × (r ≡ s)
+  pub prefix_free : {A : Type 0} (S : A → List Item → Type 0) (read : ℕ → Read Item A Stop) → ((n : ℕ) → Exact Admitted n S (read n)) → (x y : A) (t u r s : List Item) → S x t → S y u → t ++ r ≡ u ++ s → (x ≡ y) × (t ≡ u) × (r ≡ s)
   prefix_free S read exact x y t u r s p q e =
       let n : ℕ = suc (length (t ++ r)) in
       let a : read n (t ++ r) ≡ Ok (x, r) = (exact n).complete x t r p (omega arith) in
@@ -73,7 +73,7 @@ module _ {Item : Type 0} (Admitted : Item → Type 0) where
   -- ---- no item
 
   module _ {A : Type 0} (x0 : A) where
-    pure_complete : (x : A) (t rest : List Item) → Pure x0 x t → pure x0 (t ++ rest) ≡ Ok (x, rest)
+    pure_complete : (x : A) (t rest : List Item) → Pure x0 x t → pure {E = Stop} x0 (t ++ rest) ≡ Ok (x, rest)
     pure_complete x t rest is = let a : t ++ rest ≡ rest = ap (λ (w : List Item). w ++ rest) is.1 in let b = is.0 in cc
 
     pub pure_exact : (n : ℕ) → Exact Admitted n (Pure x0) (pure x0)
@@ -87,7 +87,7 @@ module _ {Item : Type 0} (Admitted : Item → Type 0) where
 
   -- ---- one after the other
 
-  module _ {A B : Type 0} (First : A → List Item → Type 0) (Second : A → B → List Item → Type 0) (r1 : Read Item A) (r2 : A → Read Item B) (n m : ℕ)
+  module _ {A B : Type 0} (First : A → List Item → Type 0) (Second : A → B → List Item → Type 0) (r1 : Read Item A Stop) (r2 : A → Read Item B Stop) (n m : ℕ)
       (first : (k : ℕ) → Exact Admitted k First r1) (second : (x : A) (t : List Item) → First x t → Follows Admitted m (Second x) (r2 x))
       (gap : (x : A) (t : List Item) → First x t → n ≤ m + length t) where
     then_admitted : (y : B) (b : List Item) → Then First Second y b → length b < n → AllByRecursion Admitted b
@@ -204,7 +204,7 @@ module _ {Item : Type 0} (Admitted : Item → Type 0) where
 
   -- ---- a value made of another
 
-  module _ {A B : Type 0} (First : A → List Item → Type 0) (r : Read Item A) (g : A → B) (n : ℕ) (first : Exact Admitted n First r) where
+  module _ {A B : Type 0} (First : A → List Item → Type 0) (r : Read Item A Stop) (g : A → B) (n : ℕ) (first : Exact Admitted n First r) where
     mapped_only : (x : A) (t u : List Item) (b : List Item) → u ≡ [] → b ≡ t ++ u → t ≡ b
     mapped_only x t u b u_is e = sym (e ∙ ap (λ (w : List Item). t ++ w) u_is ∙ append-nil t)
 
@@ -258,7 +258,7 @@ module _ {Item : Type 0} (Admitted : Item → Type 0) where
 
   -- ---- the same grammar in other words
 
-  module _ {A : Type 0} (S T : A → List Item → Type 0) (read : Read Item A) (same : Same S T) (n : ℕ) (exact : Exact Admitted n S read) where
+  module _ {A : Type 0} (S T : A → List Item → Type 0) (read : Read Item A Stop) (same : Same S T) (n : ℕ) (exact : Exact Admitted n S read) where
     same_refuses : (b : List Item) (left : ℕ) → IsRefusedAt S b left → IsRefusedAt T b left
     same_refuses b left d = record {
       front = d.front;
@@ -281,7 +281,7 @@ module _ {Item : Type 0} (Admitted : Item → Type 0) where
     }
 
   -- the same answers by another reader
-  pub reads_exact : {A : Type 0} (S : A → List Item → Type 0) (read other : Read Item A) (n : ℕ) → ((b : List Item) → length b < n → other b ≡ read b) → Exact Admitted n S read → Exact Admitted n S other
+  pub reads_exact : {A : Type 0} (S : A → List Item → Type 0) (read other : Read Item A Stop) (n : ℕ) → ((b : List Item) → length b < n → other b ≡ read b) → Exact Admitted n S read → Exact Admitted n S other
   reads_exact S read other n is exact = record {
     admitted = exact.admitted;
     sound = λ b x rest h lt e. exact.sound b x rest h lt (sym (is b lt) ∙ e);

@@ -1,7 +1,7 @@
 -- Lists of admitted items, and lists cut in two.
-use Rattle.std.proofs.Common.{◌≡◌, ◌⊎◌, inl, inr, List, [], ◌∷◌, ◌++◌, Result, Ok, Err, refl, ap}
+use Rattle.std.proofs.Common.{◌≡◌, ◌⊎◌, inl, inr, List, [], ◌∷◌, ◌++◌, Result, Ok, Err, refl, ap, ◌∙◌}
+use Rattle.std.proofs.lemmas.List.{append-nil}
 use Rattle.std.specs.List.{AllByRecursion}
-use Rattle.exact_reading.specs.declared.stop.Stop.{Stop}
 use Rattle.exact_reading.specs.Reading.{◌>>=◌}
 
 module _ {Item : Type 0} (Admitted : Item → Type 0) where
@@ -22,10 +22,14 @@ module _ {Item : Type 0} where
   append-cancel [] a b e = e
   append-cancel (x ∷ t) a b e = append-cancel t a b cc
 
-  abbrev pub done : {A : Type 0} → A → List Item → Result (A × List Item) Stop
+  -- what stands before nothing
+  pub before_none : (items t u : List Item) → u ≡ [] → items ≡ t ++ u → items ≡ t
+  before_none items t u none e = e ∙ ap (λ (w : List Item). t ++ w) none ∙ append-nil t
+
+  abbrev pub done : {A E : Type 0} → A → List Item → Result (A × List Item) E
   done x p = Ok (x, p)
 
-  pub ok_is : {A : Type 0} (x y : A) (p q : List Item) → done x p ≡ done y q → (x ≡ y) × (p ≡ q)
+  pub ok_is : {A E : Type 0} (x y : A) (p q : List Item) → done {E = E} x p ≡ done {E = E} y q → (x ≡ y) × (p ≡ q)
   ok_is {A = A} x y p q e = let w : (x, p) ≡ (y, q) = cc in (ap (λ (z : A × List Item). z.0) w, ap (λ (z : A × List Item). z.1) w)
 
   -- A front and an item, cut somewhere: the cut is in the front, or behind the item.
@@ -43,10 +47,10 @@ module _ {Item : Type 0} where
 -- ---- steps of a reader
 
 -- what stands behind the first step, or why there is no first step
-pub bind_ok : {A B : Type 0} (r : Result A Stop) (f : A → Result B Stop) (y : B) → (r >>= f) ≡ Ok y → (x : A) × (r ≡ Ok x) × (f x ≡ Ok y)
+pub bind_ok : {A B E : Type 0} (r : Result A E) (f : A → Result B E) (y : B) → (r >>= f) ≡ Ok y → (x : A) × (r ≡ Ok x) × (f x ≡ Ok y)
 bind_ok (Ok x) f y e = (x, refl, e)
 bind_ok (Err d) f y e = absurd cc
 
-pub bind_err : {A B : Type 0} (r : Result A Stop) (f : A → Result B Stop) (d : Stop) → (r >>= f) ≡ Err d → (r ≡ Err d) ⊎ ((x : A) × (r ≡ Ok x) × (f x ≡ Err d))
+pub bind_err : {A B E : Type 0} (r : Result A E) (f : A → Result B E) (d : E) → (r >>= f) ≡ Err d → (r ≡ Err d) ⊎ ((x : A) × (r ≡ Ok x) × (f x ≡ Err d))
 bind_err (Ok x) f d e = inr (x, refl, e)
 bind_err (Err c) f d e = let h : c ≡ d = cc in inl (ap Err h)

@@ -28,7 +28,7 @@ pub record IsTrailing {Item A : Type 0} (S : A → List Item → Type 0) (items 
   pub spelled : S value front
 
 -- the cause of a reader's answer: a text at the front, or why there is none
-abbrev pub Answers : {Item A : Type 0} → (A → List Item → Type 0) → List Item → Result (A × List Item) Stop → Type 0
-Answers {Item} S items (Ok p) = (t : List Item) × S p.0 t × (items ≡ t ++ p.1)
-Answers S items (Err Ended) = IsTruncated S items
-Answers S items (Err (Refused left)) = IsMalformed S items (length items - left)
+abbrev pub IsCaused : {Item A : Type 0} → (A → List Item → Type 0) → List Item → Result (A × List Item) Stop → Type 0
+IsCaused {Item} S items (Ok p) = (t : List Item) × S p.0 t × (items ≡ t ++ p.1)
+IsCaused S items (Err Ended) = IsTruncated S items
+IsCaused S items (Err (Refused left)) = IsMalformed S items (length items - left)

@@ -1,6 +1,7 @@
 -- A grammar is a relation of values and texts, lists of items. What it is that a reader is exact for a grammar, and grammars made of others.
 use Rattle.std.specs.Prelude.{◌≡◌, ℕ, suc, ◌<◌, List, [], ◌∷◌, ◌++◌, length, Option, Some, Ok, Err}
 use Rattle.std.specs.List.{AllByRecursion}
+use Rattle.exact_reading.specs.declared.stop.Stop.{Stop}
 use Rattle.exact_reading.specs.declared.stop.Stop.TheVariants.{Ended, Refused}
 use Rattle.exact_reading.specs.Reading.{Read}
 
@@ -16,7 +17,7 @@ pub record IsRefusedAt {Item A : Type 0} (S : A → List Item → Type 0) (items
   pub refused : (x : A) (more : List Item) → S x (front ++ item ∷ more) → ⊥
 
 -- On lists of fewer than n items, all of them admitted, the reader gives what the grammar says, and stops where it says.
-pub record Exact {Item A : Type 0} (Admitted : Item → Type 0) (n : ℕ) (S : A → List Item → Type 0) (read : Read Item A) : Type 0 where
+pub record Exact {Item A : Type 0} (Admitted : Item → Type 0) (n : ℕ) (S : A → List Item → Type 0) (read : Read Item A Stop) : Type 0 where
   -- texts have admitted items
   pub admitted : (x : A) (t : List Item) → S x t → length t < n → AllByRecursion Admitted t
   -- what is read has its text at the front
@@ -43,7 +44,7 @@ abbrev pub Then : {Item A B : Type 0} → (A → List Item → Type 0) → (A �
 Then {Item} {A} First Second y items = (x : A) × (t : List Item) × (u : List Item) × First x t × Second x y u × (items ≡ t ++ u)
 
 -- the second of two: exact, and with a text at all
-pub record Follows {Item B : Type 0} (Admitted : Item → Type 0) (n : ℕ) (S : B → List Item → Type 0) (read : Read Item B) : Type 0 where
+pub record Follows {Item B : Type 0} (Admitted : Item → Type 0) (n : ℕ) (S : B → List Item → Type 0) (read : Read Item B Stop) : Type 0 where
   pub exact : Exact Admitted n S read
   pub some : (y : B) × (u : List Item) × S y u
 

@@ -4,7 +4,7 @@ ghost use Rattle.std.specs.Prelude.{◌≡◌, ℕ, ◌++◌, List, [], Result, 
 ghost use Rattle.std.specs.List.{AllByRecursion};
 ghost use Rattle.exact_reading.specs.declared.stop.Stop.{Stop};
 ghost use Rattle.exact_reading.specs.Exact.{Exact};
-ghost use Rattle.exact_reading.specs.Causes.{IsTruncated, IsMalformed, IsTrailing, Answers};
+ghost use Rattle.exact_reading.specs.Causes.{IsTruncated, IsMalformed, IsTrailing, IsCaused};
 
 /// A grammar, and a reader that is exact for it.
 pub trait Grammar {
@@ -34,7 +34,7 @@ pub fn texts_are_unique<G: Grammar>()
 
 /// Each answer of the reader has its cause.
 pub fn answers_have_causes<G: Grammar>()
-    ensures { (items : List G.Item) → AllByRecursion G.admitted items → Answers G.spells items (G.read items) }
+    ensures { (items : List G.Item) → AllByRecursion G.admitted items → IsCaused G.spells items (G.read items) }
 {}
 
 /// No list is both truncated and malformed, nor is a text either, nor has any of them a text before its end.

@@ -9,3 +9,6 @@ pub use laws::{
     texts_are_unique,
 };
 pub use stop::{ReadError, Stop};
+
+#[cfg(test)]
+mod tests;

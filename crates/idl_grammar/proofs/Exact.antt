@@ -2,27 +2,12 @@
 use Rattle.std.proofs.Common.{◌≡◌, ℕ, zero, suc, ◌<◌, ◌≤◌, ◌⊎◌, inl, inr, [], ◌∷◌, length, Result, Ok, Err, refl, ap, subst, arith}
 use Rattle.idl_grammar.specs.declared.fault.Fault.{Fault}
 use Rattle.idl_grammar.specs.declared.fault.Fault.TheVariants.{Syntax}
-use Rattle.idl_grammar.specs.declared.fault.Stop.{Stop}
+use Rattle.idl_grammar.specs.declared.fault.LineFault.{LineFault}
 use Rattle.idl_tokens.specs.Tokens.{Tok, Spot, Toks}
-use Rattle.idl_grammar.specs.Grammar.{Turn, leave, enter, wrong, Grammar, give, token, next, look, loop, stop, first, Turns, done, more, Spells, Fails, ended, at_turn, inside, later, Faulty}
-use Rattle.idl_grammar.specs.Run.{Read, ◌>>=◌, judged, turned, turns, run}
-
-abbrev both : {A : Type 0} → A → Toks → Result (A × Toks) Stop
-both x p = Ok (x, p)
-
-pub ok_is : {A : Type 0} (x y : A) (p q : Toks) → both x p ≡ both y q → (x ≡ y) × (p ≡ q)
-ok_is {A = A} x y p q e = let w : (x, p) ≡ (y, q) = cc in (ap (λ (z : A × Toks). z.0) w, ap (λ (z : A × Toks). z.1) w)
-
-abbrev fails : {A : Type 0} → A → Stop → Result A Stop
-fails x d = Err d
-
-pub bind_ok : {A B : Type 0} (r : Result A Stop) (f : A → Result B Stop) (y : B) → (r >>= f) ≡ Ok y → (x : A) × (r ≡ Ok x) × (f x ≡ Ok y)
-bind_ok (Ok x) f y e = (x, refl, e)
-bind_ok (Err d) f y e = absurd cc
-
-pub bind_err : {A B : Type 0} (r : Result A Stop) (f : A → Result B Stop) (d : Stop) → (r >>= f) ≡ Err d → (r ≡ Err d) ⊎ ((x : A) × (r ≡ Ok x) × (f x ≡ Err d))
-bind_err (Ok x) f d e = inr (x, refl, e)
-bind_err (Err c) f d e = let h : c ≡ d = cc in inl (ap Err h)
+use Rattle.idl_grammar.specs.Grammar.{Turn, leave, enter, wrong, Grammar, give, token, next, look, loop, line_fault, first, Turns, done, more, Spells, FaultyTurns, ended, at_turn, inside, later, Faulty}
+use Rattle.exact_reading.specs.Reading.{◌>>=◌}
+use Rattle.exact_reading.proofs.Items.{ok_is, bind_ok, bind_err}
+use Rattle.idl_grammar.specs.Run.{TokenReader, judged, turned, turns, run}
 
 -- ---- one token
 
@@ -30,14 +15,14 @@ judged_ok : {A : Type 0} (v : Result A Fault) (t : Spot) (ts : Toks) (x : A) (re
 judged_ok (Ok y) t ts x rest e = let h = ok_is y x ts rest e in (ap Ok h.0, h.1)
 judged_ok (Err f) t ts x rest e = absurd cc
 
-judged_err : {A : Type 0} (v : Result A Fault) (t : Spot) (ts : Toks) (e : Stop) → judged v t ts ≡ Err e → (f : Fault) × (v ≡ Err f) × (e ≡ stop f t.line)
+judged_err : {A : Type 0} (v : Result A Fault) (t : Spot) (ts : Toks) (e : LineFault) → judged v t ts ≡ Err e → (f : Fault) × (v ≡ Err f) × (e ≡ line_fault f t.line)
 judged_err (Ok y) t ts e h = absurd cc
 judged_err (Err f) t ts e h = (f, refl, cc)
 
 -- ---- turns
 
-module _ {S B : Type 0} (turn : S → Tok → Tok → Turn B) (body : S → B → Read S) (shrinks : (s : S) (b : B) (ts : Toks) (m : S) (mid : Toks) → body s b ts ≡ Ok (m, mid) → length mid ≤ length ts) where
-  abbrev going : ℕ → S → B → Toks → Result (S × Toks) Stop
+module _ {S B : Type 0} (turn : S → Tok → Tok → Turn B) (body : S → B → TokenReader S) (shrinks : (s : S) (b : B) (ts : Toks) (m : S) (mid : Toks) → body s b ts ≡ Ok (m, mid) → length mid ≤ length ts) where
+  abbrev going : ℕ → S → B → Toks → Result (S × Toks) LineFault
   going n s b us = body s b us >>= λ p. turns turn body n p.0 p.1
 
   turns_shrink : (n : ℕ) (s : S) (ts : Toks) (e : S) (rest : Toks) → turns turn body n s ts ≡ Ok (e, rest) → length rest ≤ length ts
@@ -59,7 +44,7 @@ module _ {S B : Type 0} (turn : S → Tok → Tok → Turn B) (body : S → B �
   same_turns (suc n) (suc m) s [] h k = refl
   same_turns (suc n) (suc m) s (t ∷ ts) h k = by_turn (λ y mid le. same_turns n m y mid (omega arith) (omega arith)) (turn s t.token (first ts))
     where
-      by_body : ((y : S) (mid : Toks) → length mid ≤ length ts → turns turn body n y mid ≡ turns turn body m y mid) → (b : B) (r : Result (S × Toks) Stop) → body s b ts ≡ r → (r >>= λ p. turns turn body n p.0 p.1) ≡ (r >>= λ p. turns turn body m p.0 p.1)
+      by_body : ((y : S) (mid : Toks) → length mid ≤ length ts → turns turn body n y mid ≡ turns turn body m y mid) → (b : B) (r : Result (S × Toks) LineFault) → body s b ts ≡ r → (r >>= λ p. turns turn body n p.0 p.1) ≡ (r >>= λ p. turns turn body m p.0 p.1)
       by_body ih b (Ok p) q = ih p.0 p.1 (shrinks s b ts p.0 p.1 q)
       by_body ih b (Err e) q = refl
 
@@ -93,24 +78,24 @@ module _ {S B : Type 0} (turn : S → Tok → Tok → Turn B) (body : S → B �
         let le = shrinks s b ts m mid a in
         rw (q, a) (turns_again n m mid e rest (omega arith) then)
 
-    module _ (Wrong : S → B → Toks → Stop → Type 0)
-        (blamed : (s : S) (b : B) (ts : Toks) (e : Stop) → body s b ts ≡ Err e → Wrong s b ts e)
-        (stops : (s : S) (b : B) (ts : Toks) (e : Stop) → Wrong s b ts e → body s b ts ≡ Err e) where
-      turns_blamed : (n : ℕ) (s : S) (ts : Toks) (e : Stop) → length ts < n → turns turn body n s ts ≡ Err e → Fails turn Body Wrong s ts e
+    module _ (Wrong : S → B → Toks → LineFault → Type 0)
+        (blamed : (s : S) (b : B) (ts : Toks) (e : LineFault) → body s b ts ≡ Err e → Wrong s b ts e)
+        (stops : (s : S) (b : B) (ts : Toks) (e : LineFault) → Wrong s b ts e → body s b ts ≡ Err e) where
+      turns_blamed : (n : ℕ) (s : S) (ts : Toks) (e : LineFault) → length ts < n → turns turn body n s ts ≡ Err e → FaultyTurns turn Body Wrong s ts e
       turns_blamed zero s ts e h k = absurd (omega arith)
-      turns_blamed (suc n) s [] e h k = let q : stop Syntax 0 ≡ e = cc in subst (λ (z : Stop). Fails turn Body Wrong s [] z) q (ended s)
+      turns_blamed (suc n) s [] e h k = let q : line_fault Syntax 0 ≡ e = cc in subst (λ (z : LineFault). FaultyTurns turn Body Wrong s [] z) q (ended s)
       turns_blamed (suc n) s (t ∷ ts) e h k = by_turn (λ m mid le j. turns_blamed n m mid e (omega arith) j) (turn s t.token (first ts)) refl k
         where
-          by_turn : ((m : S) (mid : Toks) → length mid ≤ length ts → turns turn body n m mid ≡ Err e → Fails turn Body Wrong m mid e) → (v : Turn B) → turn s t.token (first ts) ≡ v → turned v (going n s) s t ts ≡ Err e → Fails turn Body Wrong s (t ∷ ts) e
+          by_turn : ((m : S) (mid : Toks) → length mid ≤ length ts → turns turn body n m mid ≡ Err e → FaultyTurns turn Body Wrong m mid e) → (v : Turn B) → turn s t.token (first ts) ≡ v → turned v (going n s) s t ts ≡ Err e → FaultyTurns turn Body Wrong s (t ∷ ts) e
           by_turn ih leave q j = absurd cc
           by_turn ih (enter b) q j =
               elim (bind_err (body s b ts) (λ p. turns turn body n p.0 p.1) e j) [
                 | inl w ↦ inside s b t ts e q (blamed s b ts e w)
                 | inr a ↦ later s a.0.0 b t ts a.0.1 e q (spelled s b ts a.0.0 a.0.1 a.1) (ih a.0.0 a.0.1 (shrinks s b ts a.0.0 a.0.1 a.1) a.2)
               ]
-          by_turn ih (wrong f) q j = let w : stop f t.line ≡ e = cc in subst (λ (z : Stop). Fails turn Body Wrong s (t ∷ ts) z) w (at_turn s t ts f q)
+          by_turn ih (wrong f) q j = let w : line_fault f t.line ≡ e = cc in subst (λ (z : LineFault). FaultyTurns turn Body Wrong s (t ∷ ts) z) w (at_turn s t ts f q)
 
-      turns_stop : (n : ℕ) (s : S) (ts : Toks) (e : Stop) → length ts < n → Fails turn Body Wrong s ts e → turns turn body n s ts ≡ Err e
+      turns_stop : (n : ℕ) (s : S) (ts : Toks) (e : LineFault) → length ts < n → FaultyTurns turn Body Wrong s ts e → turns turn body n s ts ≡ Err e
       turns_stop zero s ts e h is = absurd (omega arith)
       turns_stop (suc n) _ _ _ h (ended s) = refl
       turns_stop (suc n) _ _ _ h (at_turn s t ts f q) = rw q refl
@@ -160,7 +145,7 @@ mutual
 
 mutual
   -- where reading stops, there is the first faulty token
-  pub blamed : {A : Type 0} (g : Grammar A) (ts : Toks) (e : Stop) → run g ts ≡ Err e → Faulty g ts e
+  pub blamed : {A : Type 0} (g : Grammar A) (ts : Toks) (e : LineFault) → run g ts ≡ Err e → Faulty g ts e
   blamed (give y) ts e h = absurd cc
   blamed (token v) [] e h = cc
   blamed (token v) (t ∷ ts) e h = judged_err (v t.token) t ts e h
@@ -176,7 +161,7 @@ mutual
       (λ m b us d. Faulty (g m b) us d) (λ m b us d. blamed (g m b) us d) (λ m b us d. stops (g m b) us d) (suc (length ts)) s ts e (omega arith) h
 
   -- at the first faulty token reading stops
-  pub stops : {A : Type 0} (g : Grammar A) (ts : Toks) (e : Stop) → Faulty g ts e → run g ts ≡ Err e
+  pub stops : {A : Type 0} (g : Grammar A) (ts : Toks) (e : LineFault) → Faulty g ts e → run g ts ≡ Err e
   stops (give y) ts e is = absurd is
   stops (token v) [] e is = cc is
   stops (token v) (t ∷ ts) e is = rw (is.1, is.2) refl

@@ -2,7 +2,7 @@
 use Rattle.std.specs.Prelude.{◌≡◌, ◌⊎◌, ℕ, [], ◌∷◌, Result, Ok, Err}
 use Rattle.idl_grammar.specs.declared.fault.Fault.{Fault}
 use Rattle.idl_grammar.specs.declared.fault.Fault.TheVariants.{Syntax}
-use Rattle.idl_grammar.specs.declared.fault.Stop.{Stop}
+use Rattle.idl_grammar.specs.declared.fault.LineFault.{LineFault}
 use Rattle.idl_tokens.specs.Tokens.{Tok, finish, Spot, Toks}
 
 -- what the next token says where something may stand any number of times
@@ -26,8 +26,8 @@ pub data Grammar : Type 0 → Type 1 where
   -- any number, by the first token of each and the one after it, and with what they mean so far
   loop : {S B : Type 0} → (S → Tok → Tok → Turn B) → (S → B → Grammar S) → S → Grammar S
 
-abbrev pub stop : Fault → ℕ → Stop
-stop f n = record { fault = f; line = n }
+abbrev pub line_fault : Fault → ℕ → LineFault
+line_fault f n = record { fault = f; line = n }
 
 abbrev pub first : Toks → Tok
 first [] = finish
@@ -49,18 +49,18 @@ Spells (look f) x (t ∷ ts) rest = Spells (f t.token) x (t ∷ ts) rest
 Spells (loop turn g s) x ts rest = Turns turn (λ m b e. Spells (g m b) e) s x ts rest
 
 -- A fault in some turn.
-pub data Fails {S B : Type 0} (turn : S → Tok → Tok → Turn B) (Body : S → B → S → Toks → Toks → Type 0) (Wrong : S → B → Toks → Stop → Type 0) : S → Toks → Stop → Type 0 where
-  ended : (s : S) → Fails turn Body Wrong s [] (stop Syntax 0)
-  at_turn : (s : S) (t : Spot) (ts : Toks) (f : Fault) → turn s t.token (first ts) ≡ wrong f → Fails turn Body Wrong s (t ∷ ts) (stop f t.line)
-  inside : (s : S) (b : B) (t : Spot) (ts : Toks) (e : Stop) → turn s t.token (first ts) ≡ enter b → Wrong s b ts e → Fails turn Body Wrong s (t ∷ ts) e
-  later : (s m : S) (b : B) (t : Spot) (ts mid : Toks) (e : Stop) → turn s t.token (first ts) ≡ enter b → Body s b m ts mid → Fails turn Body Wrong m mid e → Fails turn Body Wrong s (t ∷ ts) e
+pub data FaultyTurns {S B : Type 0} (turn : S → Tok → Tok → Turn B) (Body : S → B → S → Toks → Toks → Type 0) (Wrong : S → B → Toks → LineFault → Type 0) : S → Toks → LineFault → Type 0 where
+  ended : (s : S) → FaultyTurns turn Body Wrong s [] (line_fault Syntax 0)
+  at_turn : (s : S) (t : Spot) (ts : Toks) (f : Fault) → turn s t.token (first ts) ≡ wrong f → FaultyTurns turn Body Wrong s (t ∷ ts) (line_fault f t.line)
+  inside : (s : S) (b : B) (t : Spot) (ts : Toks) (e : LineFault) → turn s t.token (first ts) ≡ enter b → Wrong s b ts e → FaultyTurns turn Body Wrong s (t ∷ ts) e
+  later : (s m : S) (b : B) (t : Spot) (ts mid : Toks) (e : LineFault) → turn s t.token (first ts) ≡ enter b → Body s b m ts mid → FaultyTurns turn Body Wrong m mid e → FaultyTurns turn Body Wrong s (t ∷ ts) e
 
 -- The first token of ts that the grammar has something against: what, and the token's line. Where all tokens are taken and one more is wanted, the line is 0.
-abbrev pub Faulty : {A : Type 0} → Grammar A → Toks → Stop → Type 0
+abbrev pub Faulty : {A : Type 0} → Grammar A → Toks → LineFault → Type 0
 Faulty (give y) ts e = ⊥
-Faulty (token v) [] e = e ≡ stop Syntax 0
-Faulty (token v) (t ∷ ts) e = (f : Fault) × (v t.token ≡ Err f) × (e ≡ stop f t.line)
+Faulty (token v) [] e = e ≡ line_fault Syntax 0
+Faulty (token v) (t ∷ ts) e = (f : Fault) × (v t.token ≡ Err f) × (e ≡ line_fault f t.line)
 Faulty (next g f) ts e = Faulty g ts e ⊎ ((y : _) × (mid : Toks) × Spells g y ts mid × Faulty (f y) mid e)
-Faulty (look f) [] e = e ≡ stop Syntax 0
+Faulty (look f) [] e = e ≡ line_fault Syntax 0
 Faulty (look f) (t ∷ ts) e = Faulty (f t.token) (t ∷ ts) e
-Faulty (loop turn g s) ts e = Fails turn (λ m b x. Spells (g m b) x) (λ m b. Faulty (g m b)) s ts e
+Faulty (loop turn g s) ts e = FaultyTurns turn (λ m b x. Spells (g m b) x) (λ m b. Faulty (g m b)) s ts e

@@ -1,51 +1,52 @@
 //! Why a text is no definition.
 
 ghost use Rattle.std.specs.Prelude.{◌≡◌};
-ghost use Rattle.idl_grammar.specs.declared.fault.ReadError.TheVariants.{Memory};
+ghost use Rattle.exact_reading.specs.declared.stop.ReadError.TheVariants as errors;
 
-use std::alloc::{AllocError, AllocFailed};
+use thiserror::Error;
 
 /// What a token has against it, in the order of the numbers.
-#[derive(Clone, Copy, Debug)]
+#[derive(Clone, Copy, Debug, Error)]
 pub enum Fault {
+    #[error("the token can't stand there")]
     Syntax,
+    #[error("the token begins what is not supported")]
     Unsupported,
+    #[error("no type has the name")]
     UnknownType,
+    #[error("the name stands already")]
     RepeatedName,
+    #[error("the id stands already")]
     RepeatedId,
+    #[error("the number can't be an id")]
     BadId,
+    #[error("the value can't be a default of the type")]
     BadDefault,
+    #[error("the type can't be the type of a key")]
     KeyType,
+    #[error("the type has too many levels")]
     TooDeep,
+    #[error("the type has too many nodes")]
     TooManyNodes,
+    #[error("the struct has too many fields")]
     StructTooWide,
 }
 
 /// The fault of the first faulty token, and its line.
-#[derive(Clone, Copy, Debug)]
-pub struct Stop {
+#[derive(Clone, Copy, Debug, Error)]
+#[error("line {line}: {fault}")]
+pub struct LineFault {
     pub fault: Fault,
     pub line: u32,
 }
 
-#[derive(Debug, Drop)]
-pub enum ReadError {
-    Memory,
-    Stop(Stop),
-}
+/// Why nothing was read: want of memory, or the first faulty token.
+pub type ReadError = exact_reading::ReadError<LineFault>;
 
-impl From<AllocError> for ReadError {
-    ghost from_gives = { λ _ e. e ≡ Memory };
+impl From<LineFault> for exact_reading::ReadError<LineFault> {
+    ghost from_gives = { λ fault e. e ≡ errors.Stop fault };
 
-    fn from(_e: AllocError) -> ReadError {
-        ReadError::Memory
-    }
-}
-
-impl<T: Drop> From<AllocFailed<T>> for ReadError {
-    ghost from_gives = { λ _ e. e ≡ Memory };
-
-    fn from(_e: AllocFailed<T>) -> ReadError {
-        ReadError::Memory
+    fn from(fault: LineFault) -> exact_reading::ReadError<LineFault> {
+        exact_reading::ReadError::Stop(fault)
     }
 }

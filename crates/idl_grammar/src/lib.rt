@@ -4,5 +4,8 @@
 mod fault;
 mod laws;
 
-pub use fault::{Fault, ReadError, Stop};
-pub use laws::{HasGrammar, reading_is_exact, texts_have_one_answer};
+pub use fault::{Fault, LineFault, ReadError};
+pub use laws::{HasGrammar, reading_is_exact, tokens_have_one_answer};
+
+#[cfg(test)]
+mod tests;

@@ -2,6 +2,7 @@
 use Rattle.std.proofs.Common.{◌≡◌, ℕ, zero, suc, ◌+◌, ◌*◌, ◌-◌, ◌^◌, ◌<◌, ◌≤◌, ◌⊎◌, inl, inr, List, [], ◌∷◌, refl, sym, ap, ◌∙◌, arith, length, get_or, drop, drop-cons}
 use Rattle.std.specs.Prelude.{min}
 use Rattle.std.proofs.lemmas.Bool.{cases_lt}
+use Rattle.std.proofs.lemmas.List.{drop_all}
 use Rattle.idl_tokens.specs.Numbers.{digit_value, value_behind}
 
 abbrev pub most : ℕ
@@ -10,12 +11,6 @@ most = 2 ^ 64 - 1
 times_le : (n b : ℕ) → 1 ≤ b → n ≤ n * b
 times_le n zero h = absurd (omega arith)
 times_le n (suc b) h = omega arith
-
-drop-all : (ds : List ℕ) (i : ℕ) → length ds ≤ i → drop i ds ≡ []
-drop-all [] zero h = refl
-drop-all [] (suc i) h = refl
-drop-all (d ∷ ds) zero h = absurd (omega arith)
-drop-all (d ∷ ds) (suc i) h = drop-all ds i (omega arith)
 
 -- the same, or both at least the most
 abbrev Same : ℕ → ℕ → Type 0
@@ -45,6 +40,6 @@ digit-step b n i d goal ds h lt e =
 
 pub all-read : (b n i goal : ℕ) (ds : List ℕ) → n ≤ most → length ds ≤ i → min (value_behind b n (drop i ds)) most ≡ goal → n ≡ goal
 all-read b n i goal ds le lt e =
-    let k : drop i ds ≡ [] = drop-all ds i lt in
+    let k : drop i ds ≡ [] = drop_all i ds lt in
     let j : n ≡ min n most = omega arith in
     j ∙ ap (λ (z : List ℕ). min (value_behind b n z) most) (sym k) ∙ e

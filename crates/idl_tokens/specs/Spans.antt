@@ -2,31 +2,12 @@
 use Rattle.std.specs.Prelude.{ℕ, Bool, true, false, ◌+◌, ◌-◌, nat_le, nat_lt, ◌&&◌, ◌||◌, if◌then◌else◌, List, [], ◌∷◌, length, take, drop, slice_range, map, Option, Some, None}
 use Rattle.idl_tokens.specs.declared.token.Token.{Token}
 use Rattle.idl_tokens.specs.declared.token.Token.TheVariants as c
-use Rattle.idl_tokens.specs.declared.token.Span.{Span}
+use Rattle.base_lists.specs.Spans.{span, text_at}
 use Rattle.idl_tokens.specs.declared.token.Placed.{Placed}
 use Rattle.idl_tokens.specs.declared.fronts.Piece.{Piece}
 use Rattle.idl_tokens.specs.declared.fronts.Piece.TheVariants as p
 use Rattle.idl_tokens.specs.declared.fronts.Front as f
 use Rattle.idl_tokens.specs.Tokens.{Tok, word, number, literal, mark, finish, bad, Spot, spot, Toks, Front, blank, token, wrong}
-
-abbrev pub span : ℕ → ℕ → Span
-span start len = record { start = start; len = len }
-
--- whether a text may be cut before these bytes: at its end, or where a character begins
-abbrev pub may_begin : List ℕ → Bool
-may_begin [] = true
-may_begin (b ∷ bytes) = nat_lt b 128 || nat_le 192 b
-
--- whether these are two places of the text where it may be cut
-abbrev pub may_cut : List ℕ → ℕ → ℕ → Bool
-may_cut text from to = nat_le to (length text) && may_begin (drop from text) && may_begin (drop to text)
-
-abbrev pub part_between : List ℕ → ℕ → ℕ → List ℕ
-part_between text from to = if may_cut text from to then slice_range text from to else []
-
--- the part of the text at a span; none where the text ends before, or where a character would be cut
-abbrev pub text_at : List ℕ → Span → List ℕ
-text_at text s = part_between text s.start (s.start + s.len)
 
 abbrev pub tok_of : List ℕ → Token → Tok
 tok_of text (c.Word w) = word (text_at text w)

@@ -8,7 +8,7 @@ mod scan;
 mod token;
 
 pub use scan::split;
-pub use token::{Placed, Span, Token, text_at};
+pub use token::{Placed, Token};
 
 #[cfg(test)]
 mod tests;

@@ -6,7 +6,8 @@ ghost use Rattle.idl_tokens.specs.Tokens.{tokens as tokens_in};
 ghost use Rattle.idl_tokens.specs.Spans.{toks, token_of, placed_at, is_wrong as is_wrong_of};
 
 use crate::fronts::{Front, Piece, front_at};
-use crate::token::{Placed, Span, Token};
+use crate::token::{Placed, Token};
+use base_lists::Span;
 use std::alloc::{AllocError, AllocFailed, Global};
 
 fn newlines(text: &[u8]) -> usize

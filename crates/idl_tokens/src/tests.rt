@@ -1,5 +1,6 @@
 //! Texts and their tokens, with the answers written by hand.
 use crate::{Token, split};
+use base_lists::text_at;
 use std::alloc::Global;
 use std::string::String;
 use std::test::Fail;
@@ -62,5 +63,22 @@ fn texts_split(rt: HostRuntime) -> Result<(), Fail> {
     for (text, want) in rows {
         assert_eq!(rt; listed(alloc, text)?.as_str(), want, "{text}");
     }
+    Ok(())
+}
+
+#[test]
+fn word_and_mark(rt: HostRuntime) -> Result<(), Fail> {
+    let text = "list\n<";
+    let tokens = split(rt.alloc(), text)?;
+    assert_eq!(rt; tokens.len(), 3);
+    match tokens[0].token {
+        Token::Word(span) => assert_eq!(rt; text_at(text, span), "list"),
+        _ => assert!(rt; false),
+    }
+    match tokens[1].token {
+        Token::Mark(mark) => assert_eq!(rt; mark, b'<'),
+        _ => assert!(rt; false),
+    }
+    assert_eq!(rt; tokens[1].line, 2);
     Ok(())
 }

@@ -1,7 +1,7 @@
 use Rattle.std.proofs.Common.{◌∙◌, ap, refl, subst, arith}
 use Rattle.std.specs.Str.{IsUtf8}
-use Rattle.idl_tokens.proofs.Cuts.{part-is}
-use Rattle.idl_tokens.proofs.token.text_at.Goals as goal
+use Rattle.base_lists.proofs.Cuts.{part-is}
+use Rattle.base_lists.proofs.span.text_at.Goals as goal
 
 pub returns : goal.returns
 returns c =

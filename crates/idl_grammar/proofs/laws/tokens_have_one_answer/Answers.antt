@@ -1,5 +1,5 @@
 use Rattle.idl_grammar.proofs.Lawful.{one-meaning, one-fault, not-both}
-use Rattle.idl_grammar.proofs.laws.texts_have_one_answer.Goals as goal
+use Rattle.idl_grammar.proofs.laws.tokens_have_one_answer.Goals as goal
 
 pub returns : goal.returns
 returns g c = record {

@@ -7,10 +7,10 @@ use Rattle.compact_wire.specs.declared.fault.WireFault.TheVariants.{Truncated, M
 use Rattle.compact_wire.specs.Bytes.{IsByte}
 use Rattle.compact_wire.specs.Spells.{SpellsWire}
 use Rattle.compact_wire.specs.View.{view}
-use Rattle.compact_wire.specs.Answers.{Answers, AnswersOnly}
+use Rattle.compact_wire.specs.WireAnswers.{IsWireAnswer, IsOnlyWireAnswer}
 use Rattle.compact_wire.proofs.WireLaws.{wire, wire_exact, one_node}
 
-pub only_of : (b : List ℕ) (r : Result Wire WireFault) → Answers b r → AnswersOnly b r
+pub only_of : (b : List ℕ) (r : Result Wire WireFault) → IsWireAnswer b r → IsOnlyWireAnswer b r
 only_of b (Ok x) is = record {
   spelled = λ w p. one_node (view x) w b is p;
   truncated = λ t. absurd (text_not_truncated IsByte SpellsWire wire wire_exact b (view x) is t);

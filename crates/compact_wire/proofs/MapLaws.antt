@@ -7,14 +7,15 @@ use Rattle.compact_wire.specs.Node.{Node, Pairs, no_pairs, pair, map}
 use Rattle.compact_wire.specs.Bytes.{IsByte, ByteReader, OneByte}
 use Rattle.exact_reading.specs.Reading.{and_then, pure, one}
 use Rattle.compact_wire.specs.Number.{IsNumber}
-use Rattle.compact_wire.specs.Reads.{number, kind_at, if_fits, fits, most_bytes, kinds_of, entry_kinds, map_head, pairs, mapping_entries, map_tail, mapping}
-use Rattle.compact_wire.specs.declared.heads.EntryKinds.{EntryKinds}
+use Rattle.compact_wire.specs.Reads.{number, kind_at, if_fits, fits, most_bytes, kinds_of, pair_kinds, map_header, pairs, mapping_pairs, map_tail, mapping}
+use Rattle.compact_wire.specs.declared.header.PairKinds.{PairKinds}
 use Rattle.compact_wire.specs.Codes.{code_of, kind_of}
-use Rattle.compact_wire.specs.Spells.{Spells, SpellsPairs, no_entries, entry, is_no_map, is_map}
+use Rattle.compact_wire.specs.Spells.{Spells, SpellsPairs, no_pair, one_pair, is_no_map, is_map}
+use Rattle.exact_reading.proofs.Items.{before_none}
 use Rattle.exact_reading.specs.Exact.{Exact, Then, Pure, Follows}
 use Rattle.exact_reading.proofs.Combinators.{pure_exact, one_exact, mapped_exact, then_exact, same_exact}
 use Rattle.compact_wire.proofs.NumberLaws.{number_exact}
-use Rattle.compact_wire.proofs.SequenceLaws.{whole, Layer, spells_fits, and_then_some, fits_scalar}
+use Rattle.compact_wire.proofs.SequenceLaws.{Layer, spells_fits, and_then_some, fits_scalar}
 
 if_fits_is : (fit : Bool) (a b : Kind) → cond fit (Some a) None ≡ Some b → (fit ≡ true) × (a ≡ b)
 if_fits_is true a b e = (refl, cc)
@@ -31,8 +32,8 @@ pub kind_at_again : (l c : ℕ) (kind : Kind) → kind_of c ≡ Some kind → fi
 unfolding kind_at
 kind_at_again l c kind is fit = rw (is, fit) refl
 
-kinds_are : (o p : Option Kind) (h : EntryKinds) → kinds_of o p ≡ Some h → (o ≡ Some h.key) × (p ≡ Some h.value)
-kinds_are (Some c) (Some d) h e = let k : entry_kinds c d ≡ h = cc in (ap (λ (z : EntryKinds). Some z.key) k, ap (λ (z : EntryKinds). Some z.value) k)
+kinds_are : (o p : Option Kind) (h : PairKinds) → kinds_of o p ≡ Some h → (o ≡ Some h.key) × (p ≡ Some h.value)
+kinds_are (Some c) (Some d) h e = let k : pair_kinds c d ≡ h = cc in (ap (λ (z : PairKinds). Some z.key) k, ap (λ (z : PairKinds). Some z.value) k)
 kinds_are (Some c) None h e = absurd cc
 kinds_are None p h e = absurd cc
 
@@ -50,23 +51,23 @@ module _ (l : ℕ) (a b : Kind) (ra rb : ByteReader Node)
 
   entry_to : (m : ℕ) (w : Pairs) (t : List ℕ) → EntryThen m w t → SpellsPairs l a b (suc m) w t
   entry_to m w t (x, u, t1, p, (y, v, t2, q, (xs, c, d, r, (w_is, d_is), e3), e2), e) =
-      let tail : t1 ≡ v ++ c = e2 ∙ ap (λ (z : List ℕ). v ++ z) (whole t2 c d d_is e3) in
-      subst (λ (z : Pairs). SpellsPairs l a b (suc m) z t) (sym w_is) (entry l a b m x y xs t u v c p q r (e ∙ ap (λ (z : List ℕ). u ++ z) tail))
+      let tail : t1 ≡ v ++ c = e2 ∙ ap (λ (z : List ℕ). v ++ z) (before_none t2 c d d_is e3) in
+      subst (λ (z : Pairs). SpellsPairs l a b (suc m) z t) (sym w_is) (one_pair l a b m x y xs t u v c p q r (e ∙ ap (λ (z : List ℕ). u ++ z) tail))
 
   entry_from : (m : ℕ) (w : Pairs) (t : List ℕ) → SpellsPairs l a b (suc m) w t → EntryThen m w t
-  entry_from m w t (entry _ _ _ _ x y xs _ u v c p q r e) = (x, u, v ++ c, p, (y, v, c, q, (xs, c, [], r, (refl, refl), sym (append-nil c)), refl), e)
+  entry_from m w t (one_pair _ _ _ _ x y xs _ u v c p q r e) = (x, u, v ++ c, p, (y, v, c, q, (xs, c, [], r, (refl, refl), sym (append-nil c)), refl), e)
 
   none_to : (w : Pairs) (t : List ℕ) → Pure no_pairs w t → SpellsPairs l a b 0 w t
-  none_to w t (w_is, t_is) = subst (λ (v : Pairs). SpellsPairs l a b 0 v t) (sym w_is) (no_entries l a b t t_is)
+  none_to w t (w_is, t_is) = subst (λ (v : Pairs). SpellsPairs l a b 0 v t) (sym w_is) (no_pair l a b t t_is)
 
   none_from : (w : Pairs) (t : List ℕ) → SpellsPairs l a b 0 w t → Pure no_pairs w t
-  none_from w t (no_entries _ _ _ _ e) = (refl, e)
+  none_from w t (no_pair _ _ _ _ e) = (refl, e)
 
   pairs_some : (m : ℕ) → (xs : Pairs) × (t : List ℕ) × SpellsPairs l a b m xs t
-  pairs_some zero = (no_pairs, [], no_entries l a b [] refl)
+  pairs_some zero = (no_pairs, [], no_pair l a b [] refl)
   pairs_some (suc m) =
       let r = pairs_some m in
-      (pair some_a.0 some_b.0 r.0, some_a.1 ++ (some_b.1 ++ r.1), entry l a b m some_a.0 some_b.0 r.0 (some_a.1 ++ (some_b.1 ++ r.1)) some_a.1 some_b.1 r.1 some_a.2 some_b.2 r.2 refl)
+      (pair some_a.0 some_b.0 r.0, some_a.1 ++ (some_b.1 ++ r.1), one_pair l a b m some_a.0 some_b.0 r.0 (some_a.1 ++ (some_b.1 ++ r.1)) some_a.1 some_b.1 r.1 some_a.2 some_b.2 r.2 refl)
 
   pairs_exact : (m n : ℕ) → Exact IsByte n (SpellsPairs l a b m) (pairs ra rb m)
   unfolding pairs
@@ -84,26 +85,26 @@ module _ (l : ℕ) (a b : Kind) (ra rb : ByteReader Node)
       (then_exact IsByte (Spells l a) (λ x. SecondThen m x) ra (λ x. and_then rb (last_read x)) n n exact_a (λ x t p. record { exact = second_exact x; some = second_some x }) (λ x t p. omega arith))
 
 module _ (l : ℕ) (read : Kind → ByteReader Node) (layer : Layer l read) where
-  abbrev Entries : ℕ → EntryKinds → Node → List ℕ → Type 0
+  abbrev Entries : ℕ → PairKinds → Node → List ℕ → Type 0
   Entries m h = Then (SpellsPairs l h.key h.value (suc m)) (λ xs. Pure (map (code_of h.key) (code_of h.value) xs))
 
   abbrev MapTail : ℕ → Node → List ℕ → Type 0
   MapTail zero = Pure (map 0 0 no_pairs)
-  MapTail (suc m) = Then (OneByte (map_head l)) (Entries m)
+  MapTail (suc m) = Then (OneByte (map_header l)) (Entries m)
 
   abbrev MapThen : Node → List ℕ → Type 0
   MapThen = Then (IsNumber 5 (2 ^ 31 - 1)) MapTail
 
-  heads : (c : ℕ) (h : EntryKinds) → map_head l c ≡ Some h → (kind_of (c / 16) ≡ Some h.key) × (fits l h.key ≡ true) × (kind_of (c % 16) ≡ Some h.value) × (fits l h.value ≡ true)
-  unfolding map_head
+  heads : (c : ℕ) (h : PairKinds) → map_header l c ≡ Some h → (kind_of (c / 16) ≡ Some h.key) × (fits l h.key ≡ true) × (kind_of (c % 16) ≡ Some h.value) × (fits l h.value ≡ true)
+  unfolding map_header
   heads c h e =
       let t = kinds_are (kind_at l (c / 16)) (kind_at l (c % 16)) h e in
       let f = kind_at_is l (c / 16) h.key t.0 in
       let g = kind_at_is l (c % 16) h.value t.1 in
       (f.0, f.1, g.0, g.1)
 
-  heads_again : (c d : ℕ) (a b : Kind) → c < 16 → d < 16 → kind_of c ≡ Some a → kind_of d ≡ Some b → fits l a ≡ true → fits l b ≡ true → map_head l (16 * c + d) ≡ Some (entry_kinds a b)
-  unfolding map_head
+  heads_again : (c d : ℕ) (a b : Kind) → c < 16 → d < 16 → kind_of c ≡ Some a → kind_of d ≡ Some b → fits l a ≡ true → fits l b ≡ true → map_header l (16 * c + d) ≡ Some (pair_kinds a b)
+  unfolding map_header
   heads_again c d a b c_lt d_lt c_is d_is fit_a fit_b =
       let q : (16 * c + d) / 16 ≡ c = omega arith in
       let r : (16 * c + d) % 16 ≡ d = omega arith in
@@ -111,25 +112,25 @@ module _ (l : ℕ) (read : Kind → ByteReader Node) (layer : Layer l read) wher
 
   map_to : (w : Node) (t : List ℕ) → MapThen w t → Spells (suc l) k.Map w t
   map_to w t (zero, h, b, number_is, (w_is, b_is), e) =
-      subst (λ (z : Node). Spells (suc l) k.Map z t) (sym w_is) (is_no_map l t (subst (λ (z : List ℕ). IsNumber 5 (2 ^ 31 - 1) 0 z) (sym (whole t h b b_is e)) number_is))
+      subst (λ (z : Node). Spells (suc l) k.Map z t) (sym w_is) (is_no_map l t (subst (λ (z : List ℕ). IsNumber 5 (2 ^ 31 - 1) 0 z) (sym (before_none t h b b_is e)) number_is))
   map_to w t (suc m, h, b, number_is, (kinds, c1, u1, (c, byte, means, c1_is), (xs, u, v, its, (w_is, v_is), e3), e2), e) =
       let f = heads c kinds means in
       let c_is : c ≡ 16 * (c / 16) + c % 16 = omega arith in
-      let tail : b ≡ (16 * (c / 16) + c % 16) ∷ u = e2 ∙ ap (λ (z : List ℕ). z ++ u1) c1_is ∙ ap (λ (z : List ℕ). c ∷ z) (whole u1 u v v_is e3) ∙ ap (λ (z : ℕ). z ∷ u) c_is in
+      let tail : b ≡ (16 * (c / 16) + c % 16) ∷ u = e2 ∙ ap (λ (z : List ℕ). z ++ u1) c1_is ∙ ap (λ (z : List ℕ). c ∷ z) (before_none u1 u v v_is e3) ∙ ap (λ (z : ℕ). z ∷ u) c_is in
       subst (λ (z : Node). Spells (suc l) k.Map z t) (sym w_is)
       (is_map l kinds.key kinds.value m (c / 16) (c % 16) xs t h u number_is (omega arith) (omega arith) f.0 f.2 its (e ∙ ap (λ (z : List ℕ). h ++ z) tail))
 
   pairs_fit : (a b : Kind) (m : ℕ) (xs : Pairs) (t : List ℕ) → SpellsPairs l a b (suc m) xs t → (fits l a ≡ true) × (fits l b ≡ true)
-  pairs_fit a b m xs t (entry _ _ _ _ x y _ _ u v w p q r _) = (spells_fits l a x u p, spells_fits l b y v q)
+  pairs_fit a b m xs t (one_pair _ _ _ _ x y _ _ u v w p q r _) = (spells_fits l a x u p, spells_fits l b y v q)
 
   map_from : (w : Node) (t : List ℕ) → Spells (suc l) k.Map w t → MapThen w t
   map_from w t (is_no_map _ _ number_is) = (0, t, [], number_is, (refl, refl), sym (append-nil t))
   map_from w t (is_map _ key value m c d xs _ h u number_is c_lt d_lt c_is d_is its e) =
       let fit = pairs_fit key value m xs u its in
-      let means : map_head l (16 * c + d) ≡ Some (entry_kinds key value) = heads_again c d key value c_lt d_lt c_is d_is fit.0 fit.1 in
-      (suc m, h, (16 * c + d) ∷ u, number_is, (entry_kinds key value, (16 * c + d) ∷ [], u, (16 * c + d, omega arith, means, refl), (xs, u, [], its, (refl, refl), sym (append-nil u)), refl), e)
+      let means : map_header l (16 * c + d) ≡ Some (pair_kinds key value) = heads_again c d key value c_lt d_lt c_is d_is fit.0 fit.1 in
+      (suc m, h, (16 * c + d) ∷ u, number_is, (pair_kinds key value, (16 * c + d) ∷ [], u, (16 * c + d, omega arith, means, refl), (xs, u, [], its, (refl, refl), sym (append-nil u)), refl), e)
 
-  entries_follow : (m n : ℕ) (h : EntryKinds) (c : ℕ) → map_head l c ≡ Some h → Follows IsByte n (Entries m h) (mapping_entries read (suc m) h)
+  entries_follow : (m n : ℕ) (h : PairKinds) (c : ℕ) → map_header l c ≡ Some h → Follows IsByte n (Entries m h) (mapping_pairs read (suc m) h)
   entries_follow m n h c means =
       let a : Kind = h.key in
       let b : Kind = h.value in
@@ -141,18 +142,18 @@ module _ (l : ℕ) (read : Kind → ByteReader Node) (layer : Layer l read) wher
         some = (map (code_of a) (code_of b) s.0, s.1, (s.0, s.1, [], s.2, (refl, refl), sym (append-nil s.1)));
       }
 
-  head_flags : map_head l 17 ≡ Some (entry_kinds k.Flag k.Flag)
+  header_flags : map_header l 17 ≡ Some (pair_kinds k.Flag k.Flag)
   unfolding kind_of
-  head_flags = heads_again 1 1 k.Flag k.Flag (omega arith) (omega arith) refl refl (fits_scalar l k.Flag refl) (fits_scalar l k.Flag refl)
+  header_flags = heads_again 1 1 k.Flag k.Flag (omega arith) (omega arith) refl refl (fits_scalar l k.Flag refl) (fits_scalar l k.Flag refl)
 
   tail_follows : (n m : ℕ) → Follows IsByte n (MapTail m) (map_tail l read m)
   tail_follows n zero = record { exact = pure_exact IsByte (map 0 0 no_pairs) n; some = (map 0 0 no_pairs, [], (refl, refl)) }
   tail_follows n (suc m) =
-      let s = (entries_follow m n (entry_kinds k.Flag k.Flag) 17 head_flags).some in
+      let s = (entries_follow m n (pair_kinds k.Flag k.Flag) 17 header_flags).some in
       record {
-        exact = then_exact IsByte (OneByte (map_head l)) (Entries m) (one (map_head l)) (mapping_entries read (suc m)) n n (one_exact IsByte (map_head l) 17 (entry_kinds k.Flag k.Flag) (omega arith) head_flags)
+        exact = then_exact IsByte (OneByte (map_header l)) (Entries m) (one (map_header l)) (mapping_pairs read (suc m)) n n (one_exact IsByte (map_header l) 17 (pair_kinds k.Flag k.Flag) (omega arith) header_flags)
             (λ h t p. entries_follow m n h p.0 p.2) (λ h t p. omega arith);
-        some = (s.0, 17 ∷ s.1, (entry_kinds k.Flag k.Flag, 17 ∷ [], s.1, (17, omega arith, head_flags, refl), s.2, refl));
+        some = (s.0, 17 ∷ s.1, (pair_kinds k.Flag k.Flag, 17 ∷ [], s.1, (17, omega arith, header_flags, refl), s.2, refl));
       }
 
   pub mapping_exact : (n : ℕ) → Exact IsByte n (Spells (suc l) k.Map) (mapping l read)

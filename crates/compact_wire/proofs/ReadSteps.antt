@@ -6,21 +6,21 @@ use Rattle.exact_reading.specs.declared.stop.ReadError.{ReadError}
 use Rattle.exact_reading.specs.declared.stop.ReadError.TheVariants as errors
 use Rattle.compact_wire.specs.declared.kind.Kind.{Kind}
 use Rattle.compact_wire.specs.declared.kind.Kind.TheVariants as k
-use Rattle.compact_wire.specs.declared.heads.EntryKinds.{EntryKinds}
-use Rattle.compact_wire.specs.declared.heads.FieldType.{FieldType}
-use Rattle.compact_wire.specs.declared.heads.FieldType.TheVariants.{Given as given, Of as of}
-use Rattle.compact_wire.specs.declared.heads.FieldHead.{FieldHead}
-use Rattle.compact_wire.specs.declared.heads.FieldHead.TheVariants.{End as stop, Step as step, Long as long}
+use Rattle.compact_wire.specs.declared.header.PairKinds.{PairKinds}
+use Rattle.compact_wire.specs.declared.header.FieldType.{FieldType}
+use Rattle.compact_wire.specs.declared.header.FieldType.TheVariants.{Given as given, Of as of}
+use Rattle.compact_wire.specs.declared.header.FieldHeader.{FieldHeader}
+use Rattle.compact_wire.specs.declared.header.FieldHeader.TheVariants.{End as stop, Step as step, Long as long}
 use Rattle.compact_wire.specs.declared.wire.Wire.{Wire, Map, the_lemmas}
 use Rattle.compact_wire.specs.Node.{Node, flag, map, Nodes, no_nodes, node, Pairs, no_pairs, pair, Fields, no_fields, field}
 use Rattle.compact_wire.specs.Bytes.{IsByte, AreBytes, ByteReader}
 use Rattle.exact_reading.specs.Reading.{◌>>=◌, and_then, pure, one, meaning, Fails}
-use Rattle.compact_wire.specs.Reads.{number, signed, most_bytes, mapping, map_head, mapping_entries, fits, scalar, container, value, items, pairs, fields, all_fields, field_head, field_start, start_tail, field_tail, with_field, typed}
+use Rattle.compact_wire.specs.Reads.{number, signed, most_bytes, mapping, map_header, mapping_pairs, fits, scalar, container, value, items, pairs, fields, all_fields, field_header, field_start, start_tail, field_tail, with_field, typed}
 use Rattle.compact_wire.specs.View.{view, nodes_view, fields_view, pairs_view}
 use Rattle.exact_reading.proofs.Items.{admitted-back, bind_ok, ok_is}
 use Rattle.exact_reading.proofs.Combinators.{meaning_ok}
 use Rattle.compact_wire.proofs.Signed.{signed_exact}
-use Rattle.compact_wire.proofs.StructLaws.{value_layer, TypeIs, HeadIs, head_is}
+use Rattle.compact_wire.proofs.StructLaws.{value_layer, TypeIs, HeaderIs, header_is}
 
 pub AreBytes-from : (bs : List ℕ) → ((i : ℕ) → get_or bs i 0 < 256) → AreBytes bs
 AreBytes-from [] h = tt
@@ -64,10 +64,10 @@ module _ (value : ByteReader Node) where
       let one_more : with_nodes front (items value (count - i) bytes) ≡ with_nodes (front ++ w ∷ []) (items value (count - (i + 1)) after) = rw (k, h) (regroup front w (items value (count - (i + 1)) after)) in
       sym one_more ∙ so_far
 
-  pub items_end : (e : ReadError) (front : List Wire) (count i : ℕ) (bytes : List ℕ) (total : Result (Nodes × List ℕ) Stop) → i < count → Fails e (value bytes)
+  pub items_end : (e : ReadError Stop) (front : List Wire) (count i : ℕ) (bytes : List ℕ) (total : Result (Nodes × List ℕ) Stop) → i < count → Fails e (value bytes)
       → with_nodes front (items value (count - i) bytes) ≡ total → Fails e total
   unfolding items
-  items_end errors.Memory front count i bytes total lt h so_far = tt
+  items_end errors.NoMemory front count i bytes total lt h so_far = tt
   items_end (errors.Stop f) front count i bytes total lt h so_far =
       let k : count - i ≡ suc (count - (i + 1)) = omega arith in
       let ends : with_nodes front (items value (count - i) bytes) ≡ Err f = rw (k, h) refl in
@@ -117,19 +117,19 @@ module _ (key value : ByteReader Node) where
       let one_more : with_pairs front (pairs key value (count - i) bytes) ≡ with_pairs (front ++ (x, y) ∷ []) (pairs key value (count - (i + 1)) after) = rw (k, h, j) (pairs_regroup front x y (pairs key value (count - (i + 1)) after)) in
       sym one_more ∙ so_far
 
-  pub key_fails : (e : ReadError) (front : List (Wire × Wire)) (count i : ℕ) (bytes : List ℕ) (total : Result (Pairs × List ℕ) Stop) → i < count → Fails e (key bytes)
+  pub key_fails : (e : ReadError Stop) (front : List (Wire × Wire)) (count i : ℕ) (bytes : List ℕ) (total : Result (Pairs × List ℕ) Stop) → i < count → Fails e (key bytes)
       → with_pairs front (pairs key value (count - i) bytes) ≡ total → Fails e total
   unfolding pairs
-  key_fails errors.Memory front count i bytes total lt h so_far = tt
+  key_fails errors.NoMemory front count i bytes total lt h so_far = tt
   key_fails (errors.Stop f) front count i bytes total lt h so_far =
       let k : count - i ≡ suc (count - (i + 1)) = omega arith in
       let ends : with_pairs front (pairs key value (count - i) bytes) ≡ Err f = rw (k, h) refl in
       sym so_far ∙ ends
 
-  pub item_fails : (e : ReadError) (front : List (Wire × Wire)) (count i : ℕ) (bytes : List ℕ) (x : Wire) (mid : List ℕ) (total : Result (Pairs × List ℕ) Stop) → i < count → key bytes ≡ Ok (view x, mid) → Fails e (value mid)
+  pub item_fails : (e : ReadError Stop) (front : List (Wire × Wire)) (count i : ℕ) (bytes : List ℕ) (x : Wire) (mid : List ℕ) (total : Result (Pairs × List ℕ) Stop) → i < count → key bytes ≡ Ok (view x, mid) → Fails e (value mid)
       → with_pairs front (pairs key value (count - i) bytes) ≡ total → Fails e total
   unfolding pairs
-  item_fails errors.Memory front count i bytes x mid total lt h j so_far = tt
+  item_fails errors.NoMemory front count i bytes x mid total lt h j so_far = tt
   item_fails (errors.Stop f) front count i bytes x mid total lt h j so_far =
       let k : count - i ≡ suc (count - (i + 1)) = omega arith in
       let ends : with_pairs front (pairs key value (count - i) bytes) ≡ Err f = rw (k, h, j) refl in
@@ -208,9 +208,9 @@ typed_ends levels c (of kind) b x rest is h e = value_ends levels kind b x rest 
 abbrev starts : Option (ℤ × FieldType) → List ℕ → Result (Option (ℤ × FieldType) × List ℕ) Stop
 starts o r = Ok (o, r)
 
-start_is : (levels : ℕ) (before : ℤ) (c : ℕ) (h : FieldHead) (b : List ℕ) (id : ℤ) (ty : FieldType) (mid : List ℕ) → AreBytes b → HeadIs levels before c h → start_tail h b ≡ Ok (Some (id, ty), mid)
+pub start_is : (levels : ℕ) (before : ℤ) (c : ℕ) (h : FieldHeader) (b : List ℕ) (id : ℤ) (ty : FieldType) (mid : List ℕ) → AreBytes b → HeaderIs levels before c h → start_tail h b ≡ Ok (Some (id, ty), mid)
     → IsEnd b mid × TypeIs levels (c % 16) ty
-unfolding HeadIs
+unfolding HeaderIs
 start_is levels before c stop b id ty mid h is e = absurd (let o = (ok_is None (Some (id, ty)) b mid e).0 in cc)
 start_is levels before c (step i y) b id ty mid h is e =
     let o = ok_is (Some (i, y)) (Some (id, ty)) b mid e in
@@ -228,10 +228,10 @@ pub field_takes : (levels : ℕ) (before : ℤ) (b : List ℕ) (id : ℤ) (ty : 
 unfolding field_start
 field_takes levels before [] id ty mid x after h e k = absurd cc
 field_takes levels before (c ∷ b) id ty mid x after h e k =
-    let a = bind_ok (meaning (field_head levels before c) b) (λ p. start_tail p.0 p.1) (Some (id, ty), mid) e in
-    let m = meaning_ok IsByte (field_head levels before c) b a.0.0 a.0.1 a.1 in
+    let a = bind_ok (meaning (field_header levels before c) b) (λ p. start_tail p.0 p.1) (Some (id, ty), mid) e in
+    let m = meaning_ok IsByte (field_header levels before c) b a.0.0 a.0.1 a.1 in
     let h2 : AreBytes a.0.1 = subst AreBytes m.1 h.1 in
-    let s = start_is levels before c a.0.0 a.0.1 id ty mid h2 (head_is levels before c a.0.0 m.0) a.2 in
+    let s = start_is levels before c a.0.0 a.0.1 id ty mid h2 (header_is levels before c a.0.0 m.0) a.2 in
     let h3 : AreBytes mid = admitted-back IsByte s.0.0 mid (subst AreBytes s.0.1 h2) in
     let v = typed_ends levels (c % 16) ty mid x after s.1 h3 k in
     (omega (arith, ap length m.1, ap length s.0.1, length-append s.0.0 mid, ap length v.1, length-append v.0 after), admitted-back IsByte v.0 after (subst AreBytes v.1 h3))
@@ -258,7 +258,7 @@ fields_regroup front id w (Ok x) = ap (λ (ns : Fields). Ok (ns, x.1)) (fields_p
 fields_regroup front id w (Err f) = refl
 
 module _ (levels : ℕ) where
-  abbrev rest_of : ℕ → Option (ℤ × FieldType) → ByteReader Fields
+  abbrev pub rest_of : ℕ → Option (ℤ × FieldType) → ByteReader Fields
   rest_of n None = pure no_fields
   rest_of n (Some p) = with_field (fields levels (value levels) n) (typed (value levels) p.1) p.0
 
@@ -269,18 +269,18 @@ module _ (levels : ℕ) where
   bind_long n ty (Ok p) = refl
   bind_long n ty (Err d) = refl
 
-  by_head : (n : ℕ) (h : FieldHead) (b : List ℕ) → field_tail (value levels) (fields levels (value levels) n) h b ≡ (start_tail h b >>= λ q. rest_of n q.0 q.1)
-  by_head n stop b = refl
-  by_head n (step id ty) b = refl
-  by_head n (long ty) b = bind_long n ty (signed 2 (2 ^ 16 - 1) b)
+  by_header : (n : ℕ) (h : FieldHeader) (b : List ℕ) → field_tail (value levels) (fields levels (value levels) n) h b ≡ (start_tail h b >>= λ q. rest_of n q.0 q.1)
+  by_header n stop b = refl
+  by_header n (step id ty) b = refl
+  by_header n (long ty) b = bind_long n ty (signed 2 (2 ^ 16 - 1) b)
 
-  by_first : (n : ℕ) (r : Result (FieldHead × List ℕ) Stop) → (r >>= λ p. field_tail (value levels) (fields levels (value levels) n) p.0 p.1) ≡ ((r >>= λ p. start_tail p.0 p.1) >>= λ q. rest_of n q.0 q.1)
-  by_first n (Ok p) = by_head n p.0 p.1
+  by_first : (n : ℕ) (r : Result (FieldHeader × List ℕ) Stop) → (r >>= λ p. field_tail (value levels) (fields levels (value levels) n) p.0 p.1) ≡ ((r >>= λ p. start_tail p.0 p.1) >>= λ q. rest_of n q.0 q.1)
+  by_first n (Ok p) = by_header n p.0 p.1
   by_first n (Err d) = refl
 
-  unroll : (n : ℕ) (before : ℤ) (b : List ℕ) → fields levels (value levels) (suc n) before b ≡ (field_start levels before b >>= λ q. rest_of n q.0 q.1)
+  pub unroll : (n : ℕ) (before : ℤ) (b : List ℕ) → fields levels (value levels) (suc n) before b ≡ (field_start levels before b >>= λ q. rest_of n q.0 q.1)
   unfolding fields field_start
-  unroll n before b = by_first n (one (field_head levels before) b)
+  unroll n before b = by_first n (one (field_header levels before) b)
 
   -- the fields so far, and what is still read, are all the fields
   pub record Reading (front : List (ℤ × Wire)) (before : ℤ) (rest bytes : List ℕ) : Type 0 where
@@ -301,8 +301,8 @@ module _ (levels : ℕ) where
       let t : r.turns ≡ suc (r.turns - 1) = omega (arith, r.enough) in
       sym r.so_far ∙ ap (λ (n : ℕ). with_fields front (fields levels (value levels) n before rest)) t ∙ ap (with_fields front) (unroll (r.turns - 1) before rest)
 
-  pub start_fails : (e : ReadError) (front : List (ℤ × Wire)) (before : ℤ) (rest bytes : List ℕ) → Reading front before rest bytes → Fails e (field_start levels before rest) → Fails e (all_fields levels (value levels) bytes)
-  start_fails errors.Memory front before rest bytes r h = tt
+  pub start_fails : (e : ReadError Stop) (front : List (ℤ × Wire)) (before : ℤ) (rest bytes : List ℕ) → Reading front before rest bytes → Fails e (field_start levels before rest) → Fails e (all_fields levels (value levels) bytes)
+  start_fails errors.NoMemory front before rest bytes r h = tt
   start_fails (errors.Stop f) front before rest bytes r h = step_is front before rest bytes r ∙ ap (λ (o : Result (Option (ℤ × FieldType) × List ℕ) Stop). with_fields front (o >>= λ q. rest_of (r.turns - 1) q.0 q.1)) h
 
   pub fields_done : (front : List (ℤ × Wire)) (before : ℤ) (rest bytes after : List ℕ) → Reading front before rest bytes → field_start levels before rest ≡ Ok (None, after) → all_fields levels (value levels) bytes ≡ Ok (fields_view front, after)
@@ -314,9 +314,9 @@ module _ (levels : ℕ) where
       → all_fields levels (value levels) bytes ≡ with_fields front (with_field (fields levels (value levels) (r.turns - 1)) (typed (value levels) ty) id mid)
   started front before id ty rest bytes mid r h = step_is front before rest bytes r ∙ ap (λ (o : Result (Option (ℤ × FieldType) × List ℕ) Stop). with_fields front (o >>= λ q. rest_of (r.turns - 1) q.0 q.1)) h
 
-  pub value_fails : (e : ReadError) (front : List (ℤ × Wire)) (before id : ℤ) (ty : FieldType) (rest bytes mid : List ℕ) → Reading front before rest bytes → field_start levels before rest ≡ Ok (Some (id, ty), mid)
+  pub value_fails : (e : ReadError Stop) (front : List (ℤ × Wire)) (before id : ℤ) (ty : FieldType) (rest bytes mid : List ℕ) → Reading front before rest bytes → field_start levels before rest ≡ Ok (Some (id, ty), mid)
       → Fails e (typed (value levels) ty mid) → Fails e (all_fields levels (value levels) bytes)
-  value_fails errors.Memory front before id ty rest bytes mid r h k = tt
+  value_fails errors.NoMemory front before id ty rest bytes mid r h k = tt
   value_fails (errors.Stop f) front before id ty rest bytes mid r h k =
       started front before id ty rest bytes mid r h
       ∙ ap (λ (o : Result (Node × List ℕ) Stop). with_fields front (o >>= λ p. fields levels (value levels) (r.turns - 1) id p.1 >>= λ q. Ok (field id p.0 q.0, q.1))) k
@@ -334,30 +334,30 @@ module _ (levels : ℕ) where
 
 -- ---- maps
 
-pub mapping-first : (levels : ℕ) (v : Kind → ByteReader Node) (b : List ℕ) (e : ReadError) → Fails e (number 4 most_bytes b) → Fails e (mapping levels v b)
+pub mapping-first : (levels : ℕ) (v : Kind → ByteReader Node) (b : List ℕ) (e : ReadError Stop) → Fails e (number 4 most_bytes b) → Fails e (mapping levels v b)
 unfolding mapping
-mapping-first levels v b errors.Memory h = tt
+mapping-first levels v b errors.NoMemory h = tt
 mapping-first levels v b (errors.Stop f) h = rw h refl
 
 pub mapping-none : (levels : ℕ) (v : Kind → ByteReader Node) (b rest : List ℕ) (n : ℕ) → number 4 most_bytes b ≡ Ok (n, rest) → n ≡ 0 → mapping levels v b ≡ Ok (map 0 0 no_pairs, rest)
 unfolding mapping
 mapping-none levels v b rest n h z = let e : number 4 most_bytes b ≡ Ok (0, rest) = h ∙ ap (λ (m : ℕ). Ok (m, rest)) z in rw e refl
 
-pub mapping-some : (levels : ℕ) (v : Kind → ByteReader Node) (b rest : List ℕ) (n : ℕ) → number 4 most_bytes b ≡ Ok (n, rest) → n ≢ 0 → mapping levels v b ≡ and_then (one (map_head levels)) (mapping_entries v n) rest
+pub mapping-some : (levels : ℕ) (v : Kind → ByteReader Node) (b rest : List ℕ) (n : ℕ) → number 4 most_bytes b ≡ Ok (n, rest) → n ≢ 0 → mapping levels v b ≡ and_then (one (map_header levels)) (mapping_pairs v n) rest
 unfolding mapping
 mapping-some levels v b rest zero h z = absurd (z refl)
 mapping-some levels v b rest (suc n) h z = rw h refl
 
-pub mapping-head_fails : (levels : ℕ) (v : Kind → ByteReader Node) (b rest : List ℕ) (n : ℕ) (e : ReadError) → number 4 most_bytes b ≡ Ok (n, rest) → n ≢ 0 → Fails e (one (map_head levels) rest) → Fails e (mapping levels v b)
-mapping-head_fails levels v b rest n errors.Memory h some fails = tt
-mapping-head_fails levels v b rest n (errors.Stop d) h some fails = mapping-some levels v b rest n h some ∙ ends
+pub mapping-header_fails : (levels : ℕ) (v : Kind → ByteReader Node) (b rest : List ℕ) (n : ℕ) (e : ReadError Stop) → number 4 most_bytes b ≡ Ok (n, rest) → n ≢ 0 → Fails e (one (map_header levels) rest) → Fails e (mapping levels v b)
+mapping-header_fails levels v b rest n errors.NoMemory h some fails = tt
+mapping-header_fails levels v b rest n (errors.Stop d) h some fails = mapping-some levels v b rest n h some ∙ ends
   where
-    ends : and_then (one (map_head levels)) (mapping_entries v n) rest ≡ Err d
+    ends : and_then (one (map_header levels)) (mapping_pairs v n) rest ≡ Err d
     ends = rw fails refl
 
-pub mapping-entries : (levels : ℕ) (v : Kind → ByteReader Node) (b rest after : List ℕ) (n : ℕ) (kinds : EntryKinds) → number 4 most_bytes b ≡ Ok (n, rest) → n ≢ 0 → one (map_head levels) rest ≡ Ok (kinds, after)
-    → mapping levels v b ≡ mapping_entries v n kinds after
-mapping-entries levels v b rest after n kinds h some head = mapping-some levels v b rest n h some ∙ goes_on
+pub mapping-pairs : (levels : ℕ) (v : Kind → ByteReader Node) (b rest after : List ℕ) (n : ℕ) (kinds : PairKinds) → number 4 most_bytes b ≡ Ok (n, rest) → n ≢ 0 → one (map_header levels) rest ≡ Ok (kinds, after)
+    → mapping levels v b ≡ mapping_pairs v n kinds after
+mapping-pairs levels v b rest after n kinds h some header = mapping-some levels v b rest n h some ∙ goes_on
   where
-    goes_on : and_then (one (map_head levels)) (mapping_entries v n) rest ≡ mapping_entries v n kinds after
-    goes_on = rw head refl
+    goes_on : and_then (one (map_header levels)) (mapping_pairs v n) rest ≡ mapping_pairs v n kinds after
+    goes_on = rw header refl

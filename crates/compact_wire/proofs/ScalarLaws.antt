@@ -12,14 +12,11 @@ use Rattle.exact_reading.specs.Reading.{and_then, pure, one, taken}
 use Rattle.compact_wire.specs.Number.{IsNumber, zigzag}
 use Rattle.compact_wire.specs.Reads.{number, signed, element_flag, signed_byte, scalar, fits}
 use Rattle.compact_wire.specs.Spells.{IsSignedByte, Spells, is_true, is_false, is_i8, is_i16, is_i32, is_i64, is_double, is_binary}
+use Rattle.exact_reading.proofs.Items.{before_none}
 use Rattle.exact_reading.specs.Exact.{Exact, Then, Pure}
 use Rattle.exact_reading.proofs.Combinators.{one_exact, mapped_exact, then_exact, same_exact}
 use Rattle.compact_wire.proofs.NumberLaws.{number_exact, zero_is}
 use Rattle.compact_wire.proofs.Signed.{IsSigned, signed_exact, IsTaken, taken_exact, taken_some}
-
--- what stands before nothing
-whole : (b t u : List ℕ) → u ≡ [] → b ≡ t ++ u → b ≡ t
-whole b t u u_is e = e ∙ ap (λ (w : List ℕ). t ++ w) u_is ∙ append-nil t
 
 -- ---- flags
 
@@ -32,7 +29,7 @@ flag_of (suc (suc (suc b))) x e = absurd (grind (arith, nat_tests))
 
 flag_to : (l : ℕ) (w : Node) (t : List ℕ) → Then (OneByte element_flag) (λ x. Pure (flag x)) w t → Spells l k.Flag w t
 flag_to l w t (x, a, u, (c, byte, means, a_is), (w_is, u_is), e) =
-    let t_is : t ≡ c ∷ [] = whole t a u u_is e ∙ a_is in
+    let t_is : t ≡ c ∷ [] = before_none t a u u_is e ∙ a_is in
     elim (flag_of c x means) [
       | inl f ↦ subst (λ (v : Node). Spells l k.Flag v t) (sym (w_is ∙ ap flag f.1)) (is_true l t (t_is ∙ ap (λ (z : ℕ). z ∷ []) f.0))
       | inr f ↦ subst (λ (v : Node). Spells l k.Flag v t) (sym (w_is ∙ ap flag f.1)) (is_false l c t f.0 t_is)
@@ -72,7 +69,7 @@ byte_again b (negsuc n) is = let m_is : 255 - b ≡ n = omega (arith, is.1) in (
 
 i8_to : (l : ℕ) (w : Node) (t : List ℕ) → Then (OneByte signed_byte) (λ x. Pure (i8 x)) w t → Spells l k.I8 w t
 i8_to l w t (z, a, u, (c, byte, means, a_is), (w_is, u_is), e) =
-    subst (λ (v : Node). Spells l k.I8 v t) (sym w_is) (is_i8 l z c t (byte_is c z byte means) (whole t a u u_is e ∙ a_is))
+    subst (λ (v : Node). Spells l k.I8 v t) (sym w_is) (is_i8 l z c t (byte_is c z byte means) (before_none t a u u_is e ∙ a_is))
 
 i8_from : (l : ℕ) (w : Node) (t : List ℕ) → Spells l k.I8 w t → Then (OneByte signed_byte) (λ x. Pure (i8 x)) w t
 i8_from l w t (is_i8 _ z b _ is e) = let m = byte_again b z is in (z, b ∷ [], [], (b, m.0, m.1, refl), (refl, refl), e)
@@ -89,7 +86,7 @@ module _ (l room greatest : ℕ) (kind : Kind) (make : ℤ → Node) (read : Byt
     (from : (w : Node) (t : List ℕ) → Spells l kind w t → (z : ℤ) × (w ≡ make z) × IsNumber (suc room) greatest (zigzag z) t) where
   integer_to : (w : Node) (t : List ℕ) → Then (IsSigned (suc room) greatest) (λ x. Pure (make x)) w t → Spells l kind w t
   integer_to w t (z, a, u, is, (w_is, u_is), e) =
-      subst (λ (v : Node). Spells l kind v t) (sym w_is) (to z t (subst (IsSigned (suc room) greatest z) (sym (whole t a u u_is e)) is))
+      subst (λ (v : Node). Spells l kind v t) (sym w_is) (to z t (subst (IsSigned (suc room) greatest z) (sym (before_none t a u u_is e)) is))
 
   integer_from : (w : Node) (t : List ℕ) → Spells l kind w t → Then (IsSigned (suc room) greatest) (λ x. Pure (make x)) w t
   integer_from w t is = let f = from w t is in (f.0, t, [], f.2, (f.1, refl), sym (append-nil t))
@@ -111,7 +108,7 @@ from_i64 l w t (is_i64 _ z _ is) = (z, refl, is)
 
 double_to : (l : ℕ) (w : Node) (t : List ℕ) → Then (IsTaken 8) (λ x. Pure (double x)) w t → Spells l k.Double w t
 double_to l w t (x, a, u, is, (w_is, u_is), e) =
-    let t_is : a ≡ t = sym (whole t a u u_is e) in
+    let t_is : a ≡ t = sym (before_none t a u u_is e) in
     subst (λ (v : Node). Spells l k.Double v t) (sym (w_is ∙ ap double (is.same ∙ t_is))) (is_double l t (ap length (sym t_is) ∙ is.len) (subst AreBytes t_is is.bytes))
 
 double_from : (l : ℕ) (w : Node) (t : List ℕ) → Spells l k.Double w t → Then (IsTaken 8) (λ x. Pure (double x)) w t
@@ -127,7 +124,7 @@ Sized m = Then (IsTaken m) (λ x. Pure (binary x))
 
 binary_to : (l : ℕ) (w : Node) (t : List ℕ) → Then (IsNumber 5 (2 ^ 31 - 1)) Sized w t → Spells l k.Binary w t
 binary_to l w t (m, h, b, number_is, (x, a, u, is, (w_is, u_is), e2), e) =
-    let x_is : b ≡ x = whole b a u u_is e2 ∙ sym is.same in
+    let x_is : b ≡ x = before_none b a u u_is e2 ∙ sym is.same in
     let len : m ≡ length x = sym is.len ∙ ap length (sym is.same) in
     subst (λ (v : Node). Spells l k.Binary v t) (sym w_is)
     (is_binary l x t h (subst (λ (j : ℕ). IsNumber 5 (2 ^ 31 - 1) j h) len number_is) (subst AreBytes (sym is.same) is.bytes) (e ∙ ap (λ (z : List ℕ). h ++ z) x_is))

@@ -10,18 +10,15 @@ use Rattle.compact_wire.specs.Node.{Node, Nodes, no_nodes, node, list, set}
 use Rattle.compact_wire.specs.Bytes.{IsByte, ByteReader, OneByte}
 use Rattle.exact_reading.specs.Reading.{and_then, pure, one}
 use Rattle.compact_wire.specs.Number.{IsNumber}
-use Rattle.compact_wire.specs.Reads.{fits, most_bytes, list_head, list_head_of, element, count, items, sequence}
-use Rattle.compact_wire.specs.declared.heads.ListHead.{ListHead}
-use Rattle.compact_wire.specs.declared.heads.ListHead.TheVariants.{Sized as sized, Counted as counted}
+use Rattle.compact_wire.specs.Reads.{fits, most_bytes, list_header, list_header_of, element, count, items, sequence}
+use Rattle.compact_wire.specs.declared.header.ListHeader.{ListHeader}
+use Rattle.compact_wire.specs.declared.header.ListHeader.TheVariants.{Sized as sized, Counted as counted}
 use Rattle.compact_wire.specs.Codes.{code_of, kind_of}
-use Rattle.compact_wire.specs.Spells.{Spells, SpellsItems, no_items, item, IsListHead, short_head, long_head, is_true, is_false, is_i8, is_i16, is_i32, is_i64, is_double, is_binary, is_list, is_set, is_no_map, is_map, is_struct}
+use Rattle.compact_wire.specs.Spells.{Spells, SpellsItems, no_items, item, IsListHeader, short_list_header, long_list_header, is_true, is_false, is_i8, is_i16, is_i32, is_i64, is_double, is_binary, is_list, is_set, is_no_map, is_map, is_struct}
+use Rattle.exact_reading.proofs.Items.{before_none}
 use Rattle.exact_reading.specs.Exact.{Exact, Then, Pure, Follows}
 use Rattle.exact_reading.proofs.Combinators.{pure_exact, one_exact, mapped_exact, then_exact, same_exact}
 use Rattle.compact_wire.proofs.NumberLaws.{number_exact, zero_is}
-
--- what stands before nothing
-pub whole : (b t u : List ℕ) → u ≡ [] → b ≡ t ++ u → b ≡ t
-whole b t u u_is e = e ∙ ap (λ (w : List ℕ). t ++ w) u_is ∙ append-nil t
 
 -- The values of a level are read exactly, at each kind that fits there.
 pub record Layer (l : ℕ) (read : Kind → ByteReader Node) : Type 0 where
@@ -36,7 +33,7 @@ module _ (l : ℕ) (kind : Kind) (read : ByteReader Node) where
 
   item_to : (m : ℕ) (w : Nodes) (t : List ℕ) → ItemThen m w t → SpellsItems l kind (suc m) w t
   item_to m w t (x, a, b, p, (xs, c, d, q, (w_is, d_is), e2), e) =
-      subst (λ (v : Nodes). SpellsItems l kind (suc m) v t) (sym w_is) (item l kind m x xs t a c p q (e ∙ ap (λ (z : List ℕ). a ++ z) (whole b c d d_is e2)))
+      subst (λ (v : Nodes). SpellsItems l kind (suc m) v t) (sym w_is) (item l kind m x xs t a c p q (e ∙ ap (λ (z : List ℕ). a ++ z) (before_none b c d d_is e2)))
 
   item_from : (m : ℕ) (w : Nodes) (t : List ℕ) → SpellsItems l kind (suc m) w t → ItemThen m w t
   item_from m w t (item _ _ _ x xs _ a c p q e) = (x, a, c, p, (xs, c, [], q, (refl, refl), sym (append-nil c)), e)
@@ -75,7 +72,7 @@ and_then_some (Some x) f y e = (x, refl, e)
 and_then_some None f y e = absurd cc
 
 -- the choice that a header makes
-chosen : (is_fifteen is_zero fit : Bool) (kind : Kind) (size : ℕ) (h : ListHead) → cond is_fifteen (Some (counted kind)) (cond (is_zero || fit) (Some (sized kind size)) None) ≡ Some h
+chosen : (is_fifteen is_zero fit : Bool) (kind : Kind) (size : ℕ) (h : ListHeader) → cond is_fifteen (Some (counted kind)) (cond (is_zero || fit) (Some (sized kind size)) None) ≡ Some h
     → ((is_fifteen ≡ true) × (h ≡ counted kind)) ⊎ ((is_fifteen ≡ false) × ((is_zero ≡ true) ⊎ (fit ≡ true)) × (h ≡ sized kind size))
 chosen true is_zero fit kind size h e = inl (refl, cc)
 chosen false true fit kind size h e = inr (refl, inl refl, cc)
@@ -83,13 +80,13 @@ chosen false false true kind size h e = inr (refl, inr refl, cc)
 chosen false false false kind size h e = absurd cc
 
 -- what is read of a header byte
-HeadIs : ℕ → ℕ → ListHead → Type 0
-HeadIs l b h = (kind : Kind) × (kind_of (b % 16) ≡ Some kind) × (((b / 16 ≡ 15) × (h ≡ counted kind)) ⊎ ((b / 16 ≢ 15) × ((b / 16 ≡ 0) ⊎ (fits l kind ≡ true)) × (h ≡ sized kind (b / 16))))
+HeaderIs : ℕ → ℕ → ListHeader → Type 0
+HeaderIs l b h = (kind : Kind) × (kind_of (b % 16) ≡ Some kind) × (((b / 16 ≡ 15) × (h ≡ counted kind)) ⊎ ((b / 16 ≢ 15) × ((b / 16 ≡ 0) ⊎ (fits l kind ≡ true)) × (h ≡ sized kind (b / 16))))
 
-head_is : (l b : ℕ) (h : ListHead) → list_head l b ≡ Some h → HeadIs l b h
-unfolding HeadIs list_head
-head_is l b h e =
-    let a = and_then_some (kind_of (b % 16)) (list_head_of l (b / 16)) h e in (
+header_is : (l b : ℕ) (h : ListHeader) → list_header l b ≡ Some h → HeaderIs l b h
+unfolding HeaderIs list_header
+header_is l b h e =
+    let a = and_then_some (kind_of (b % 16)) (list_header_of l (b / 16)) h e in (
       a.0,
       a.1,
       elim (chosen (eqb (b / 16) 15) (eqb (b / 16) 0) (fits l a.0) a.0 (b / 16) h a.2) [
@@ -105,23 +102,23 @@ not_above : (a b : ℕ) → b < a → eqb a b ≡ false
 not_above a b lt = grind (arith, nat_tests)
 
 -- the header that is read of a byte that is written
-head_sized : (l n : ℕ) (kind : Kind) → n < 15 → (0 < n → fits l kind ≡ true) → list_head_of l n kind ≡ Some (sized kind n)
-head_sized l zero kind lt fit = refl
-head_sized l (suc n) kind lt fit =
+header_sized : (l n : ℕ) (kind : Kind) → n < 15 → (0 < n → fits l kind ≡ true) → list_header_of l n kind ≡ Some (sized kind n)
+header_sized l zero kind lt fit = refl
+header_sized l (suc n) kind lt fit =
     let not_fifteen : eqb (suc n) 15 ≡ false = not_same (suc n) 15 (omega arith) in
     let fits_it : fits l kind ≡ true = fit (omega arith) in
     let not_zero : eqb (suc n) 0 ≡ false = not_above (suc n) 0 (omega arith) in
     rw (not_fifteen, not_zero, fits_it) refl
 
-byte_head : (l n c : ℕ) (kind : Kind) → c < 16 → kind_of c ≡ Some kind → list_head l (16 * n + c) ≡ list_head_of l n kind
-unfolding list_head
-byte_head l n c kind lt is =
+byte_header : (l n c : ℕ) (kind : Kind) → c < 16 → kind_of c ≡ Some kind → list_header l (16 * n + c) ≡ list_header_of l n kind
+unfolding list_header
+byte_header l n c kind lt is =
     let q : (16 * n + c) / 16 ≡ n = omega arith in
     let r : (16 * n + c) % 16 ≡ c = omega arith in
     rw (q, r, is) refl
 
-head_counted : (l : ℕ) (kind : Kind) → list_head_of l 15 kind ≡ Some (counted kind)
-head_counted l kind = refl
+header_counted : (l : ℕ) (kind : Kind) → list_header_of l 15 kind ≡ Some (counted kind)
+header_counted l kind = refl
 
 pub fits_scalar : (l : ℕ) (kind : Kind) → fits 0 kind ≡ true → fits l kind ≡ true
 fits_scalar zero kind h = h
@@ -159,70 +156,70 @@ within_most : (fit : Bool) (n : ℕ) → n ≤ greatest fit → (n ≤ most_byte
 within_most true n le = (le, λ h. refl)
 within_most false n le = (omega arith, λ h. absurd (omega arith))
 
-abbrev Count : ℕ → ListHead → ℕ → List ℕ → Type 0
+abbrev Count : ℕ → ListHeader → ℕ → List ℕ → Type 0
 Count l (sized kind size) = Pure size
 Count l (counted kind) = IsNumber 5 (greatest (fits l kind))
 
 module _ (l : ℕ) (read : Kind → ByteReader Node) (layer : Layer l read) (kind_of_row : Kind) (make : ℕ → Nodes → Node)
-    (is_row : (kind : Kind) (n : ℕ) (xs : Nodes) (t h u : List ℕ) → IsListHead kind n h → SpellsItems l kind n xs u → t ≡ h ++ u → Spells (suc l) kind_of_row (make (code_of kind) xs) t)
+    (is_row : (kind : Kind) (n : ℕ) (xs : Nodes) (t h u : List ℕ) → IsListHeader kind n h → SpellsItems l kind n xs u → t ≡ h ++ u → Spells (suc l) kind_of_row (make (code_of kind) xs) t)
     (row_is : (w : Node) (t : List ℕ) → Spells (suc l) kind_of_row w t
-    → (kind : Kind) × (n : ℕ) × (xs : Nodes) × (h : List ℕ) × (u : List ℕ) × (w ≡ make (code_of kind) xs) × IsListHead kind n h × SpellsItems l kind n xs u × (t ≡ h ++ u)) where
-  abbrev Made : ListHead → ℕ → Node → List ℕ → Type 0
+    → (kind : Kind) × (n : ℕ) × (xs : Nodes) × (h : List ℕ) × (u : List ℕ) × (w ≡ make (code_of kind) xs) × IsListHeader kind n h × SpellsItems l kind n xs u × (t ≡ h ++ u)) where
+  abbrev Made : ListHeader → ℕ → Node → List ℕ → Type 0
   Made h n = Then (SpellsItems l (element h) n) (λ xs. Pure (make (code_of (element h)) xs))
 
-  abbrev Counted : ListHead → Node → List ℕ → Type 0
+  abbrev Counted : ListHeader → Node → List ℕ → Type 0
   Counted h = Then (Count l h) (Made h)
 
   abbrev RowThen : Node → List ℕ → Type 0
-  RowThen = Then (OneByte (list_head l)) Counted
+  RowThen = Then (OneByte (list_header l)) Counted
 
   row_to : (w : Node) (t : List ℕ) → RowThen w t → Spells (suc l) kind_of_row w t
-  unfolding HeadIs
+  unfolding HeaderIs
   row_to w t (sized kind size, a, b, (c, byte, means, a_is), (n, u, v, (n_is, u_is), (xs, x1, x2, its, (w_is, x2_is), e3), e2), e) =
-      let h = head_is l c (sized kind size) means in
+      let h = header_is l c (sized kind size) means in
       elim h.2 [
         | inl z ↦ absurd (let no_such : sized kind size ≡ counted h.0 = z.1 in cc)
         | inr z ↦
             let same : sized kind size ≡ sized h.0 (c / 16) = z.2 in
             let size_is : size ≡ c / 16 = cc in
             let kind_is : h.0 ≡ kind = cc in
-            let tail : b ≡ x1 = e2 ∙ ap (λ (y : List ℕ). y ++ v) u_is ∙ whole v x1 x2 x2_is e3 in
+            let tail : b ≡ x1 = e2 ∙ ap (λ (y : List ℕ). y ++ v) u_is ∙ before_none v x1 x2 x2_is e3 in
             let not_fifteen = z.0 in
-            let head : IsListHead kind n (c ∷ []) = short_head kind n (c % 16) (c ∷ []) (omega (arith, n_is, size_is, z.0)) (omega arith) (h.1 ∙ ap (λ (y : Kind). Some y) kind_is)
+            let header : IsListHeader kind n (c ∷ []) = short_list_header kind n (c % 16) (c ∷ []) (omega (arith, n_is, size_is, z.0)) (omega arith) (h.1 ∙ ap (λ (y : Kind). Some y) kind_is)
             (ap (λ (y : ℕ). y ∷ []) (omega (arith, n_is, size_is))) in
-            subst (λ (y : Node). Spells (suc l) kind_of_row y t) (sym w_is) (is_row kind n xs t (c ∷ []) x1 head its (e ∙ ap (λ (y : List ℕ). y ++ b) a_is ∙ ap (λ (y : List ℕ). c ∷ y) tail))
+            subst (λ (y : Node). Spells (suc l) kind_of_row y t) (sym w_is) (is_row kind n xs t (c ∷ []) x1 header its (e ∙ ap (λ (y : List ℕ). y ++ b) a_is ∙ ap (λ (y : List ℕ). c ∷ y) tail))
       ]
   row_to w t (counted kind, a, b, (c, byte, means, a_is), (n, u, v, number_is, (xs, x1, x2, its, (w_is, x2_is), e3), e2), e) =
-      let h = head_is l c (counted kind) means in
+      let h = header_is l c (counted kind) means in
       elim h.2 [
         | inl z ↦
             let same : counted kind ≡ counted h.0 = z.1 in
             let kind_is : h.0 ≡ kind = cc in
-            let tail : b ≡ u ++ x1 = e2 ∙ ap (λ (y : List ℕ). u ++ y) (whole v x1 x2 x2_is e3) in
+            let tail : b ≡ u ++ x1 = e2 ∙ ap (λ (y : List ℕ). u ++ y) (before_none v x1 x2 x2_is e3) in
             let m = within_most (fits l kind) n number_is.small_enough in
             let number_most : IsNumber 5 (2 ^ 31 - 1) n u = record { short_enough = number_is.short_enough; small_enough = m.0; digits = number_is.digits } in
-            let head : IsListHead kind n (c ∷ u) = long_head kind n (c % 16) (c ∷ u) u (omega arith) (h.1 ∙ ap (λ (y : Kind). Some y) kind_is) number_most (ap (λ (y : ℕ). y ∷ u) (omega (arith, z.0))) in
-            subst (λ (y : Node). Spells (suc l) kind_of_row y t) (sym w_is) (is_row kind n xs t (c ∷ u) x1 head its (e ∙ ap (λ (y : List ℕ). y ++ b) a_is ∙ ap (λ (y : List ℕ). c ∷ y) tail))
+            let header : IsListHeader kind n (c ∷ u) = long_list_header kind n (c % 16) (c ∷ u) u (omega arith) (h.1 ∙ ap (λ (y : Kind). Some y) kind_is) number_most (ap (λ (y : ℕ). y ∷ u) (omega (arith, z.0))) in
+            subst (λ (y : Node). Spells (suc l) kind_of_row y t) (sym w_is) (is_row kind n xs t (c ∷ u) x1 header its (e ∙ ap (λ (y : List ℕ). y ++ b) a_is ∙ ap (λ (y : List ℕ). c ∷ y) tail))
         | inr z ↦ absurd (let no_such : counted kind ≡ sized h.0 (c / 16) = z.2 in cc)
       ]
 
-  from_head : (kind : Kind) (n : ℕ) (xs : Nodes) (w : Node) (t h u : List ℕ) → w ≡ make (code_of kind) xs → IsListHead kind n h → SpellsItems l kind n xs u → t ≡ h ++ u → RowThen w t
-  from_head kind n xs w t h u w_is (short_head _ _ c _ lt c_lt kind_is h_is) its e =
-      let means : list_head l (16 * n + c) ≡ Some (sized kind n) = byte_head l n c kind c_lt kind_is ∙ head_sized l n kind lt (items_fit l kind n xs u its) in
+  from_header : (kind : Kind) (n : ℕ) (xs : Nodes) (w : Node) (t h u : List ℕ) → w ≡ make (code_of kind) xs → IsListHeader kind n h → SpellsItems l kind n xs u → t ≡ h ++ u → RowThen w t
+  from_header kind n xs w t h u w_is (short_list_header _ _ c _ lt c_lt kind_is h_is) its e =
+      let means : list_header l (16 * n + c) ≡ Some (sized kind n) = byte_header l n c kind c_lt kind_is ∙ header_sized l n kind lt (items_fit l kind n xs u its) in
       (sized kind n, (16 * n + c) ∷ [], u, (16 * n + c, omega arith, means, refl), (n, [], u, (refl, refl), (xs, u, [], its, (w_is, refl), sym (append-nil u)), refl), e ∙ ap (λ (y : List ℕ). y ++ u) h_is)
-  from_head kind n xs w t h u w_is (long_head _ _ c _ v c_lt kind_is number_is h_is) its e =
-      let means : list_head l (16 * 15 + c) ≡ Some (counted kind) = byte_head l 15 c kind c_lt kind_is in
+  from_header kind n xs w t h u w_is (long_list_header _ _ c _ v c_lt kind_is number_is h_is) its e =
+      let means : list_header l (16 * 15 + c) ≡ Some (counted kind) = byte_header l 15 c kind c_lt kind_is in
       let bounded : IsNumber 5 (greatest (fits l kind)) n v = record { short_enough = number_is.short_enough; small_enough = within (fits l kind) n (items_fit l kind n xs u its) number_is.small_enough; digits = number_is.digits } in
       (counted kind, (16 * 15 + c) ∷ [], v ++ u, (16 * 15 + c, omega arith, means, refl), (n, v, u, bounded, (xs, u, [], its, (w_is, refl), sym (append-nil u)), refl), e ∙ ap (λ (y : List ℕ). y ++ u) h_is)
 
   row_from : (w : Node) (t : List ℕ) → Spells (suc l) kind_of_row w t → RowThen w t
-  row_from w t is = let f = row_is w t is in from_head f.0 f.1 f.2 w t f.3 f.4 f.5 f.6 f.7 f.8
+  row_from w t is = let f = row_is w t is in from_header f.0 f.1 f.2 w t f.3 f.4 f.5 f.6 f.7 f.8
 
   -- where there are items, they fit
-  count_fits : (h : ListHead) (c : ℕ) (n : ℕ) (u : List ℕ) → list_head l c ≡ Some h → Count l h n u → 0 < n → fits l (element h) ≡ true
-  unfolding HeadIs
+  count_fits : (h : ListHeader) (c : ℕ) (n : ℕ) (u : List ℕ) → list_header l c ≡ Some h → Count l h n u → 0 < n → fits l (element h) ≡ true
+  unfolding HeaderIs
   count_fits (sized kind size) c n u means (n_is, u_is) pos_n =
-      let h = head_is l c (sized kind size) means in
+      let h = header_is l c (sized kind size) means in
       elim h.2 [
         | inl z ↦ absurd (let no_such : sized kind size ≡ counted h.0 = z.1 in cc)
         | inr z ↦
@@ -236,15 +233,15 @@ module _ (l : ℕ) (read : Kind → ByteReader Node) (layer : Layer l read) (kin
       ]
   count_fits (counted kind) c n u means number_is pos_n = (within_most (fits l kind) n number_is.small_enough).1 pos_n
 
-  count_exact : (h : ListHead) (n : ℕ) → Exact IsByte n (Count l h) (count l h)
+  count_exact : (h : ListHeader) (n : ℕ) → Exact IsByte n (Count l h) (count l h)
   count_exact (sized kind size) n = pure_exact IsByte size n
   count_exact (counted kind) n = number_exact 4 (greatest (fits l kind)) n
 
-  count_some : (h : ListHead) → (n : ℕ) × (u : List ℕ) × Count l h n u
+  count_some : (h : ListHeader) → (n : ℕ) × (u : List ℕ) × Count l h n u
   count_some (sized kind size) = (size, [], (refl, refl))
   count_some (counted kind) = (0, 0 ∷ [], zero_is 4 (greatest (fits l kind)))
 
-  made_exact : (h : ListHead) (c m : ℕ) (u : List ℕ) → list_head l c ≡ Some h → Count l h m u → (n : ℕ) → Follows IsByte n (Made h m) (and_then (items (read (element h)) m) (λ xs. pure (make (code_of (element h)) xs)))
+  made_exact : (h : ListHeader) (c m : ℕ) (u : List ℕ) → list_header l c ≡ Some h → Count l h m u → (n : ℕ) → Follows IsByte n (Made h m) (and_then (items (read (element h)) m) (λ xs. pure (make (code_of (element h)) xs)))
   made_exact h c m u means counted_is n =
       let kind : Kind = element h in
       let fit : 0 < m → fits l kind ≡ true = count_fits h c m u means counted_is in
@@ -255,7 +252,7 @@ module _ (l : ℕ) (read : Kind → ByteReader Node) (layer : Layer l read) (kin
         some = (make (code_of kind) some.0, some.1, (some.0, some.1, [], some.2, (refl, refl), sym (append-nil some.1)));
       }
 
-  counted_exact : (h : ListHead) (c : ℕ) → list_head l c ≡ Some h → (n : ℕ) → Follows IsByte n (Counted h) (and_then (count l h) (λ m. and_then (items (read (element h)) m) (λ xs. pure (make (code_of (element h)) xs))))
+  counted_exact : (h : ListHeader) (c : ℕ) → list_header l c ≡ Some h → (n : ℕ) → Follows IsByte n (Counted h) (and_then (count l h) (λ m. and_then (items (read (element h)) m) (λ xs. pure (make (code_of (element h)) xs))))
   counted_exact h c means n =
       let s = count_some h in
       let t = (made_exact h c s.0 s.1 means s.2 n).some in
@@ -265,26 +262,26 @@ module _ (l : ℕ) (read : Kind → ByteReader Node) (layer : Layer l read) (kin
         some = (t.0, s.1 ++ t.1, (s.0, s.1, t.1, s.2, t.2, refl));
       }
 
-  head_one : list_head l 1 ≡ Some (sized k.Flag 0)
-  unfolding list_head kind_of
-  head_one = refl
+  header_one : list_header l 1 ≡ Some (sized k.Flag 0)
+  unfolding list_header kind_of
+  header_one = refl
 
   pub row_exact : (n : ℕ) → Exact IsByte n (Spells (suc l) kind_of_row) (sequence make l read)
   unfolding sequence
   row_exact n = same_exact IsByte RowThen (Spells (suc l) kind_of_row) (sequence make l read) (record { to = row_to; from = row_from }) n
-      (then_exact IsByte (OneByte (list_head l)) Counted (one (list_head l)) (λ h. and_then (count l h) (λ m. and_then (items (read (element h)) m) (λ xs. pure (make (code_of (element h)) xs)))) n n
-      (one_exact IsByte (list_head l) 1 (sized k.Flag 0) (omega arith) head_one)
+      (then_exact IsByte (OneByte (list_header l)) Counted (one (list_header l)) (λ h. and_then (count l h) (λ m. and_then (items (read (element h)) m) (λ xs. pure (make (code_of (element h)) xs)))) n n
+      (one_exact IsByte (list_header l) 1 (sized k.Flag 0) (omega arith) header_one)
       (λ h t p. counted_exact h p.0 p.2 n) (λ h t p. omega arith))
 
   pub row_some : (x : Node) × (t : List ℕ) × Spells (suc l) kind_of_row x t
   unfolding kind_of
-  row_some = (make 1 no_nodes, 1 ∷ [], is_row k.Flag 0 no_nodes (1 ∷ []) (1 ∷ []) [] (short_head k.Flag 0 1 (1 ∷ []) (omega arith) (omega arith) refl refl) (no_items l k.Flag [] refl) refl)
+  row_some = (make 1 no_nodes, 1 ∷ [], is_row k.Flag 0 no_nodes (1 ∷ []) (1 ∷ []) [] (short_list_header k.Flag 0 1 (1 ∷ []) (omega arith) (omega arith) refl refl) (no_items l k.Flag [] refl) refl)
 
-list_is : (l : ℕ) (w : Node) (t : List ℕ) → Spells (suc l) k.List w t → (kind : Kind) × (n : ℕ) × (xs : Nodes) × (h : List ℕ) × (u : List ℕ) × (w ≡ list (code_of kind) xs) × IsListHead kind n h × SpellsItems l kind n xs u × (t ≡ h ++ u)
-list_is l w t (is_list _ kind n xs _ h u head its e) = (kind, n, xs, h, u, refl, head, its, e)
+list_is : (l : ℕ) (w : Node) (t : List ℕ) → Spells (suc l) k.List w t → (kind : Kind) × (n : ℕ) × (xs : Nodes) × (h : List ℕ) × (u : List ℕ) × (w ≡ list (code_of kind) xs) × IsListHeader kind n h × SpellsItems l kind n xs u × (t ≡ h ++ u)
+list_is l w t (is_list _ kind n xs _ h u header its e) = (kind, n, xs, h, u, refl, header, its, e)
 
-set_is : (l : ℕ) (w : Node) (t : List ℕ) → Spells (suc l) k.Set w t → (kind : Kind) × (n : ℕ) × (xs : Nodes) × (h : List ℕ) × (u : List ℕ) × (w ≡ set (code_of kind) xs) × IsListHead kind n h × SpellsItems l kind n xs u × (t ≡ h ++ u)
-set_is l w t (is_set _ kind n xs _ h u head its e) = (kind, n, xs, h, u, refl, head, its, e)
+set_is : (l : ℕ) (w : Node) (t : List ℕ) → Spells (suc l) k.Set w t → (kind : Kind) × (n : ℕ) × (xs : Nodes) × (h : List ℕ) × (u : List ℕ) × (w ≡ set (code_of kind) xs) × IsListHeader kind n h × SpellsItems l kind n xs u × (t ≡ h ++ u)
+set_is l w t (is_set _ kind n xs _ h u header its e) = (kind, n, xs, h, u, refl, header, its, e)
 
 pub list_exact : (l : ℕ) (read : Kind → ByteReader Node) → Layer l read → (n : ℕ) → Exact IsByte n (Spells (suc l) k.List) (sequence list l read)
 list_exact l read layer n = row_exact l read layer k.List list (λ kind m xs t h u a b e. is_list l kind m xs t h u a b e) (list_is l) n

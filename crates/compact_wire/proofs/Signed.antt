@@ -12,27 +12,8 @@ use Rattle.compact_wire.specs.Reads.{number, signed}
 use Rattle.exact_reading.proofs.Items.{admitted-front, admitted-append}
 use Rattle.exact_reading.specs.Exact.{Exact, Then, Pure}
 use Rattle.exact_reading.proofs.Combinators.{pure_exact, then_exact, same_exact}
+use Rattle.compact_wire.proofs.DigitLaws.{unzigzag-zigzag, zigzag-unzigzag}
 use Rattle.compact_wire.proofs.NumberLaws.{number_exact}
-
-pub unzigzag-even : (n : ℕ) → unzigzag (2 * n) ≡ pos n
-unfolding unzigzag
-unzigzag-even n = let r : 2 * n % 2 ≡ 0 = omega arith in let q : 2 * n / 2 ≡ n = omega arith in rw (r, q) refl
-
-pub unzigzag-odd : (n : ℕ) → unzigzag (2 * n + 1) ≡ negsuc n
-unfolding unzigzag
-unzigzag-odd n = let r : (2 * n + 1) % 2 ≡ 1 = omega arith in let q : (2 * n + 1) / 2 ≡ n = omega arith in rw (r, q) refl
-
-pub unzigzag-zigzag : (z : ℤ) → unzigzag (zigzag z) ≡ z
-unzigzag-zigzag (pos n) = unzigzag-even n
-unzigzag-zigzag (negsuc n) = unzigzag-odd n
-
-pub zigzag-unzigzag : (n : ℕ) → zigzag (unzigzag n) ≡ n
-unfolding unzigzag
-zigzag-unzigzag n =
-    elim (cases_lt (n % 2) 1) [
-      | inl lt ↦ let r : n % 2 ≡ 0 = omega arith in rw r (omega arith)
-      | inr le ↦ let r : n % 2 ≡ 1 = omega arith in rw r (omega arith)
-    ]
 
 abbrev pub IsSigned : ℕ → ℕ → ℤ → List ℕ → Type 0
 IsSigned most greatest z t = IsNumber most greatest (zigzag z) t

@@ -12,19 +12,20 @@ use Rattle.compact_wire.specs.declared.kind.Kind.TheVariants as k
 use Rattle.compact_wire.specs.Node.{Node, flag, Fields, no_fields, field, structure, map, no_pairs}
 use Rattle.compact_wire.specs.Bytes.{IsByte, ByteReader, OneByte}
 use Rattle.exact_reading.specs.Reading.{and_then, pure, one}
-use Rattle.compact_wire.specs.Reads.{signed, kind_at, fits, of_kind, field_type, head_of, field_head, typed, with_field, field_tail, fields, all_fields, container, value}
-use Rattle.compact_wire.specs.declared.heads.FieldType.{FieldType}
-use Rattle.compact_wire.specs.declared.heads.FieldType.TheVariants.{Given as given, Of as of}
-use Rattle.compact_wire.specs.declared.heads.FieldHead.{FieldHead}
-use Rattle.compact_wire.specs.declared.heads.FieldHead.TheVariants.{End as stop, Step as step, Long as long}
+use Rattle.compact_wire.specs.Reads.{signed, kind_at, fits, of_kind, field_type, header_of, field_header, typed, with_field, field_tail, fields, all_fields, container, value}
+use Rattle.compact_wire.specs.declared.header.FieldType.{FieldType}
+use Rattle.compact_wire.specs.declared.header.FieldType.TheVariants.{Given as given, Of as of}
+use Rattle.compact_wire.specs.declared.header.FieldHeader.{FieldHeader}
+use Rattle.compact_wire.specs.declared.header.FieldHeader.TheVariants.{End as stop, Step as step, Long as long}
 use Rattle.compact_wire.specs.Codes.{kind_of}
-use Rattle.compact_wire.specs.Spells.{Spells, SpellsFields, the_end, flag_field, other_field, IsFieldCode, true_code, false_code, other_code, IsFieldHead, step_head, long_field_head, is_no_map, is_struct}
+use Rattle.compact_wire.specs.Spells.{Spells, SpellsFields, the_end, flag_field, other_field, IsFieldCode, true_code, false_code, other_code, IsFieldHeader, step_field_header, long_field_header, is_no_map, is_struct}
+use Rattle.exact_reading.proofs.Items.{before_none}
 use Rattle.exact_reading.specs.Exact.{Exact, Then, Pure, Follows}
 use Rattle.exact_reading.proofs.Combinators.{pure_exact, one_exact, mapped_exact, then_exact, same_exact}
 use Rattle.compact_wire.proofs.NumberLaws.{zero_is}
 use Rattle.compact_wire.proofs.Signed.{IsSigned, signed_exact}
 use Rattle.compact_wire.proofs.ScalarLaws.{scalar_exact, scalar_some}
-use Rattle.compact_wire.proofs.SequenceLaws.{whole, Layer, spells_fits, and_then_some, fits_scalar, list_exact, list_some, set_exact, set_some}
+use Rattle.compact_wire.proofs.SequenceLaws.{Layer, spells_fits, and_then_some, fits_scalar, list_exact, list_some, set_exact, set_some}
 use Rattle.compact_wire.proofs.MapLaws.{kind_at_is, kind_at_again, mapping_exact}
 
 -- ---- the code of a field
@@ -68,36 +69,36 @@ type_again l c o kind (other_code _ _ lt is) fit =
 
 -- ---- the header of a field
 
-unfoldable pub HeadIs : ℕ → ℤ → ℕ → FieldHead → Type 0
-HeadIs l before b stop = b ≡ 0
-HeadIs l before b (step id ty) = (0 < b / 16) × (id ≡ before +ℤ pos (b / 16)) × ((before +ℤ pos (b / 16)) <ℤ pos 32768) × TypeIs l (b % 16) ty
-HeadIs l before b (long ty) = (b / 16 ≡ 0) × TypeIs l (b % 16) ty
+unfoldable pub HeaderIs : ℕ → ℤ → ℕ → FieldHeader → Type 0
+HeaderIs l before b stop = b ≡ 0
+HeaderIs l before b (step id ty) = (0 < b / 16) × (id ≡ before +ℤ pos (b / 16)) × ((before +ℤ pos (b / 16)) <ℤ pos 32768) × TypeIs l (b % 16) ty
+HeaderIs l before b (long ty) = (b / 16 ≡ 0) × TypeIs l (b % 16) ty
 
-chosen : (is_zero low : Bool) (id : ℤ) (ty : FieldType) (h : FieldHead) → cond is_zero (Some (long ty)) (cond low (Some (step id ty)) None) ≡ Some h
+chosen : (is_zero low : Bool) (id : ℤ) (ty : FieldType) (h : FieldHeader) → cond is_zero (Some (long ty)) (cond low (Some (step id ty)) None) ≡ Some h
     → ((is_zero ≡ true) × (long ty ≡ h)) ⊎ ((is_zero ≡ false) × (low ≡ true) × (step id ty ≡ h))
 chosen true low id ty h e = inl (refl, cc)
 chosen false true id ty h e = inr (refl, refl, cc)
 chosen false false id ty h e = absurd cc
 
-pub head_is : (l : ℕ) (before : ℤ) (b : ℕ) (h : FieldHead) → field_head l before b ≡ Some h → HeadIs l before b h
-unfolding field_head HeadIs
-head_is l before zero h e = let s : stop ≡ h = cc in subst (HeadIs l before 0) s refl
-head_is l before (suc b) h e =
+pub header_is : (l : ℕ) (before : ℤ) (b : ℕ) (h : FieldHeader) → field_header l before b ≡ Some h → HeaderIs l before b h
+unfolding field_header HeaderIs
+header_is l before zero h e = let s : stop ≡ h = cc in subst (HeaderIs l before 0) s refl
+header_is l before (suc b) h e =
     let n : ℕ = suc b in
     let not_zero : eqb n 0 ≡ false = grind (arith, nat_tests) in
-    let a = and_then_some (field_type l (n % 16)) (head_of before (n / 16)) h (rw not_zero at e) in
+    let a = and_then_some (field_type l (n % 16)) (header_of before (n / 16)) h (rw not_zero at e) in
     let ty = type_is l (n % 16) a.0 a.1 in
     elim (chosen (eqb (n / 16) 0) (int_lt (before +ℤ pos (n / 16)) (pos 32768)) (before +ℤ pos (n / 16)) a.0 h a.2) [
-      | inl c ↦ subst (HeadIs l before n) c.1 (eqb-true _ _ c.0, ty)
-      | inr c ↦ subst (HeadIs l before n) c.2 (let d = eqb-false _ _ c.0 in omega arith, refl, lt_z_yes (subst T (sym c.1) tt), ty)
+      | inl c ↦ subst (HeaderIs l before n) c.1 (eqb-true _ _ c.0, ty)
+      | inr c ↦ subst (HeaderIs l before n) c.2 (let d = eqb-false _ _ c.0 in omega arith, refl, lt_z_yes (subst T (sym c.1) tt), ty)
     ]
 
 is_so : (b : Bool) → T b → b ≡ true
 is_so true t = refl
 is_so false t = absurd t
 
-step_again : (l : ℕ) (before : ℤ) (delta c : ℕ) (ty : FieldType) → 0 < delta → delta < 16 → c < 16 → (before +ℤ pos delta) <ℤ pos 32768 → field_type l c ≡ Some ty → field_head l before (16 * delta + c) ≡ Some (step (before +ℤ pos delta) ty)
-unfolding field_head
+step_again : (l : ℕ) (before : ℤ) (delta c : ℕ) (ty : FieldType) → 0 < delta → delta < 16 → c < 16 → (before +ℤ pos delta) <ℤ pos 32768 → field_type l c ≡ Some ty → field_header l before (16 * delta + c) ≡ Some (step (before +ℤ pos delta) ty)
+unfolding field_header
 step_again l before delta c ty some lt c_lt low is =
     let q : (16 * delta + c) / 16 ≡ delta = omega arith in
     let r : (16 * delta + c) % 16 ≡ c = omega arith in
@@ -106,8 +107,8 @@ step_again l before delta c ty some lt c_lt low is =
     let is_low : int_lt (before +ℤ pos delta) (pos 32768) ≡ true = is_so (int_lt (before +ℤ pos delta) (pos 32768)) low.lt in
     rw (not_zero, q, r, is, no_delta, is_low) refl
 
-long_again : (l : ℕ) (before : ℤ) (c : ℕ) (ty : FieldType) → 0 < c → c < 16 → field_type l c ≡ Some ty → field_head l before c ≡ Some (long ty)
-unfolding field_head
+long_again : (l : ℕ) (before : ℤ) (c : ℕ) (ty : FieldType) → 0 < c → c < 16 → field_type l c ≡ Some ty → field_header l before c ≡ Some (long ty)
+unfolding field_header
 long_again l before c ty some c_lt is =
     let q : c / 16 ≡ 0 = omega arith in
     let r : c % 16 ≡ c = omega arith in
@@ -127,55 +128,55 @@ module _ (l : ℕ) (read : Kind → ByteReader Node) (layer : Layer l read) wher
   abbrev WithField : FieldType → ℤ → Fields → List ℕ → Type 0
   WithField ty id = Then (Typed ty) (λ x. LastThen id x)
 
-  abbrev FieldTail : FieldHead → Fields → List ℕ → Type 0
+  abbrev FieldTail : FieldHeader → Fields → List ℕ → Type 0
   FieldTail stop = Pure no_fields
   FieldTail (step id ty) = WithField ty id
   FieldTail (long ty) = Then (IsSigned 3 (2 ^ 16 - 1)) (WithField ty)
 
   abbrev FieldsThen : ℤ → Fields → List ℕ → Type 0
-  FieldsThen before = Then (OneByte (field_head l before)) FieldTail
+  FieldsThen before = Then (OneByte (field_header l before)) FieldTail
 
   -- a field by its header, of either form
-  field_to : (before id : ℤ) (c : ℕ) (ty : FieldType) (w : Fields) (t h b : List ℕ) → TypeIs l c ty → IsFieldHead before id c h → WithField ty id w b → t ≡ h ++ b → SpellsFields l before w t
+  field_to : (before id : ℤ) (c : ℕ) (ty : FieldType) (w : Fields) (t h b : List ℕ) → TypeIs l c ty → IsFieldHeader before id c h → WithField ty id w b → t ≡ h ++ b → SpellsFields l before w t
   unfolding TypeIs
-  field_to before id c (given y) w t h b ty head (x, a, u, (x_is, a_is), (xs, v, v2, p, (w_is, v2_is), e3), e2) e =
-      let tail : b ≡ v = e2 ∙ ap (λ (z : List ℕ). z ++ u) a_is ∙ whole u v v2 v2_is e3 in
+  field_to before id c (given y) w t h b ty header (x, a, u, (x_is, a_is), (xs, v, v2, p, (w_is, v2_is), e3), e2) e =
+      let tail : b ≡ v = e2 ∙ ap (λ (z : List ℕ). z ++ u) a_is ∙ before_none u v v2 v2_is e3 in
       let w_is2 : w ≡ field id (flag y) xs = w_is ∙ ap (λ (z : Node). field id z xs) x_is in
-      subst (λ (z : Fields). SpellsFields l before z t) (sym w_is2) (flag_field l before id c y xs t h v head ty p (e ∙ ap (λ (z : List ℕ). h ++ z) tail))
-  field_to before id c (of kind) w t h b ty head (x, a, u, is, (xs, v, v2, p, (w_is, v2_is), e3), e2) e =
-      let tail : b ≡ a ++ v = e2 ∙ ap (λ (z : List ℕ). a ++ z) (whole u v v2 v2_is e3) in
-      subst (λ (z : Fields). SpellsFields l before z t) (sym w_is) (other_field l before id c kind x xs t h a v head ty.0 is p (e ∙ ap (λ (z : List ℕ). h ++ z) tail))
+      subst (λ (z : Fields). SpellsFields l before z t) (sym w_is2) (flag_field l before id c y xs t h v header ty p (e ∙ ap (λ (z : List ℕ). h ++ z) tail))
+  field_to before id c (of kind) w t h b ty header (x, a, u, is, (xs, v, v2, p, (w_is, v2_is), e3), e2) e =
+      let tail : b ≡ a ++ v = e2 ∙ ap (λ (z : List ℕ). a ++ z) (before_none u v v2 v2_is e3) in
+      subst (λ (z : Fields). SpellsFields l before z t) (sym w_is) (other_field l before id c kind x xs t h a v header ty.0 is p (e ∙ ap (λ (z : List ℕ). h ++ z) tail))
 
   fields_to : (before : ℤ) (w : Fields) (t : List ℕ) → FieldsThen before w t → SpellsFields l before w t
-  unfolding HeadIs
+  unfolding HeaderIs
   fields_to before w t (stop, a, b, (c, byte, means, a_is), (w_is, b_is), e) =
-      let h = head_is l before c stop means in
-      subst (λ (z : Fields). SpellsFields l before z t) (sym w_is) (the_end l before t (whole t a b b_is e ∙ a_is ∙ ap (λ (z : ℕ). z ∷ []) h))
+      let h = header_is l before c stop means in
+      subst (λ (z : Fields). SpellsFields l before z t) (sym w_is) (the_end l before t (before_none t a b b_is e ∙ a_is ∙ ap (λ (z : ℕ). z ∷ []) h))
   fields_to before w t (step id ty, a, b, (c, byte, means, a_is), tail, e) =
-      let h = head_is l before c (step id ty) means in
-      let head : IsFieldHead before (before +ℤ pos (c / 16)) (c % 16) (c ∷ []) = step_head before (c / 16) (c % 16) (c ∷ []) h.0 (omega arith) (omega arith) h.2 (ap (λ (z : ℕ). z ∷ []) (omega arith)) in
-      field_to before id (c % 16) ty w t (c ∷ []) b h.3 (subst (λ (z : ℤ). IsFieldHead before z (c % 16) (c ∷ [])) (sym h.1) head) tail (e ∙ ap (λ (z : List ℕ). z ++ b) a_is)
+      let h = header_is l before c (step id ty) means in
+      let header : IsFieldHeader before (before +ℤ pos (c / 16)) (c % 16) (c ∷ []) = step_field_header before (c / 16) (c % 16) (c ∷ []) h.0 (omega arith) (omega arith) h.2 (ap (λ (z : ℕ). z ∷ []) (omega arith)) in
+      field_to before id (c % 16) ty w t (c ∷ []) b h.3 (subst (λ (z : ℤ). IsFieldHeader before z (c % 16) (c ∷ [])) (sym h.1) header) tail (e ∙ ap (λ (z : List ℕ). z ++ b) a_is)
   fields_to before w t (long ty, a, b, (c, byte, means, a_is), (id, u, v, number_is, tail, e2), e) =
-      let h = head_is l before c (long ty) means in
+      let h = header_is l before c (long ty) means in
       let c_is : c ≡ c % 16 = omega (arith, h.0) in
-      let head : IsFieldHead before id (c % 16) (c ∷ u) = long_field_head before id (c % 16) (c ∷ u) u (omega arith) number_is (ap (λ (z : ℕ). z ∷ u) c_is) in
-      field_to before id (c % 16) ty w t (c ∷ u) v h.1 head tail (e ∙ ap (λ (z : List ℕ). z ++ b) a_is ∙ ap (λ (z : List ℕ). c ∷ z) e2)
+      let header : IsFieldHeader before id (c % 16) (c ∷ u) = long_field_header before id (c % 16) (c ∷ u) u (omega arith) number_is (ap (λ (z : ℕ). z ∷ u) c_is) in
+      field_to before id (c % 16) ty w t (c ∷ u) v h.1 header tail (e ∙ ap (λ (z : List ℕ). z ++ b) a_is ∙ ap (λ (z : List ℕ). c ∷ z) e2)
 
-  field_from : (before id : ℤ) (c : ℕ) (ty : FieldType) (w : Fields) (t h b : List ℕ) → field_type l c ≡ Some ty → 0 < c → IsFieldHead before id c h → WithField ty id w b → t ≡ h ++ b → FieldsThen before w t
-  field_from before id c ty w t h b ty_is some (step_head _ delta _ _ d_some d_lt c_lt low h_is) tail e =
+  field_from : (before id : ℤ) (c : ℕ) (ty : FieldType) (w : Fields) (t h b : List ℕ) → field_type l c ≡ Some ty → 0 < c → IsFieldHeader before id c h → WithField ty id w b → t ≡ h ++ b → FieldsThen before w t
+  field_from before id c ty w t h b ty_is some (step_field_header _ delta _ _ d_some d_lt c_lt low h_is) tail e =
       (step (before +ℤ pos delta) ty, (16 * delta + c) ∷ [], b, (16 * delta + c, omega arith, step_again l before delta c ty d_some d_lt c_lt low ty_is, refl), tail, e ∙ ap (λ (z : List ℕ). z ++ b) h_is)
-  field_from before id c ty w t h b ty_is some (long_field_head _ _ _ _ u c_lt number_is h_is) tail e =
+  field_from before id c ty w t h b ty_is some (long_field_header _ _ _ _ u c_lt number_is h_is) tail e =
       (long ty, c ∷ [], u ++ b, (c, omega arith, long_again l before c ty some c_lt ty_is, refl), (id, u, b, number_is, tail, refl), e ∙ ap (λ (z : List ℕ). z ++ b) h_is)
 
   fields_from : (before : ℤ) (w : Fields) (t : List ℕ) → SpellsFields l before w t → FieldsThen before w t
-  unfolding field_head
+  unfolding field_header
   fields_from before w t (the_end _ _ _ e) = (stop, 0 ∷ [], [], (0, omega arith, refl, refl), (refl, refl), e)
-  fields_from before w t (flag_field _ _ id c x xs _ h v head code p e) =
+  fields_from before w t (flag_field _ _ id c x xs _ h v header code p e) =
       let ty = type_again l c (Some x) k.Flag code (fits_scalar l k.Flag refl) in
-      field_from before id c (given x) (field id (flag x) xs) t h v ty.0 ty.1 head (flag x, [], v, (refl, refl), (xs, v, [], p, (refl, refl), sym (append-nil v)), refl) e
-  fields_from before w t (other_field _ _ id c kind x xs _ h u v head code is p e) =
+      field_from before id c (given x) (field id (flag x) xs) t h v ty.0 ty.1 header (flag x, [], v, (refl, refl), (xs, v, [], p, (refl, refl), sym (append-nil v)), refl) e
+  fields_from before w t (other_field _ _ id c kind x xs _ h u v header code is p e) =
       let ty = type_again l c None kind code (spells_fits l kind x u is) in
-      field_from before id c (of kind) (field id x xs) t h (u ++ v) ty.0 ty.1 head (x, u, v, is, (xs, v, [], p, (refl, refl), sym (append-nil v)), refl) e
+      field_from before id c (of kind) (field id x xs) t h (u ++ v) ty.0 ty.1 header (x, u, v, is, (xs, v, [], p, (refl, refl), sym (append-nil v)), refl) e
 
   typed_exact : (ty : FieldType) (c : ℕ) → TypeIs l c ty → (n : ℕ) → Exact IsByte n (Typed ty) (typed read ty)
   unfolding TypeIs
@@ -203,8 +204,8 @@ module _ (l : ℕ) (read : Kind → ByteReader Node) (layer : Layer l read) wher
           some = (r.0, s.1 ++ r.1, (s.0, s.1, r.1, s.2, r.2, refl));
         }
 
-    tail_follows : (h : FieldHead) (c : ℕ) (before : ℤ) → HeadIs l before c h → Follows IsByte n (FieldTail h) (field_tail read next h)
-    unfolding HeadIs
+    tail_follows : (h : FieldHeader) (c : ℕ) (before : ℤ) → HeaderIs l before c h → Follows IsByte n (FieldTail h) (field_tail read next h)
+    unfolding HeaderIs
     tail_follows stop c before is = record { exact = pure_exact IsByte no_fields n; some = (no_fields, [], (refl, refl)) }
     tail_follows (step id ty) c before is = with_follows ty (c % 16) is.3 id
     tail_follows (long ty) c before is =
@@ -215,15 +216,15 @@ module _ (l : ℕ) (read : Kind → ByteReader Node) (layer : Layer l read) wher
           some = (r.0, 0 ∷ r.1, (pos 0, 0 ∷ [], r.1, zero_is 2 (2 ^ 16 - 1), r.2, refl));
         }
 
-    head_zero : (before : ℤ) → field_head l before 0 ≡ Some stop
-    unfolding field_head
-    head_zero before = refl
+    header_zero : (before : ℤ) → field_header l before 0 ≡ Some stop
+    unfolding field_header
+    header_zero before = refl
 
-    fields_step : (before : ℤ) → Exact IsByte (suc n) (SpellsFields l before) (and_then (one (field_head l before)) (field_tail read next))
-    fields_step before = same_exact IsByte (FieldsThen before) (SpellsFields l before) (and_then (one (field_head l before)) (field_tail read next)) (record { to = fields_to before; from = fields_from before }) (suc n)
-        (then_exact IsByte (OneByte (field_head l before)) FieldTail (one (field_head l before)) (field_tail read next) (suc n) n
-        (one_exact IsByte (field_head l before) 0 stop (omega arith) (head_zero before))
-        (λ h t p. tail_follows h p.0 before (head_is l before p.0 h p.2)) (λ h t p. omega (arith, ap length p.3)))
+    fields_step : (before : ℤ) → Exact IsByte (suc n) (SpellsFields l before) (and_then (one (field_header l before)) (field_tail read next))
+    fields_step before = same_exact IsByte (FieldsThen before) (SpellsFields l before) (and_then (one (field_header l before)) (field_tail read next)) (record { to = fields_to before; from = fields_from before }) (suc n)
+        (then_exact IsByte (OneByte (field_header l before)) FieldTail (one (field_header l before)) (field_tail read next) (suc n) n
+        (one_exact IsByte (field_header l before) 0 stop (omega arith) (header_zero before))
+        (λ h t p. tail_follows h p.0 before (header_is l before p.0 h p.2)) (λ h t p. omega (arith, ap length p.3)))
 
   nothing_exact : (before : ℤ) (r : ByteReader Fields) → Exact IsByte 0 (SpellsFields l before) r
   nothing_exact before r = record {
@@ -250,7 +251,7 @@ module _ (l : ℕ) (read : Kind → ByteReader Node) (layer : Layer l read) wher
   }
 
   struct_to : (w : Node) (t : List ℕ) → Then (SpellsFields l (pos 0)) (λ xs. Pure (structure xs)) w t → Spells (suc l) k.Struct w t
-  struct_to w t (xs, a, u, p, (w_is, u_is), e) = subst (λ (z : Node). Spells (suc l) k.Struct z t) (sym w_is) (is_struct l xs t (subst (SpellsFields l (pos 0) xs) (sym (whole t a u u_is e)) p))
+  struct_to w t (xs, a, u, p, (w_is, u_is), e) = subst (λ (z : Node). Spells (suc l) k.Struct z t) (sym w_is) (is_struct l xs t (subst (SpellsFields l (pos 0) xs) (sym (before_none t a u u_is e)) p))
 
   struct_from : (w : Node) (t : List ℕ) → Spells (suc l) k.Struct w t → Then (SpellsFields l (pos 0)) (λ xs. Pure (structure xs)) w t
   struct_from w t (is_struct _ xs _ p) = (xs, t, [], p, (refl, refl), sym (append-nil t))

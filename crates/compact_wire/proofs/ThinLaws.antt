@@ -23,7 +23,7 @@ thin_bytes-injective (x ∷ xs) [] e = absurd (cc)
 thin_bytes-injective (x ∷ xs) (y ∷ ys) e =
     let f = field-unique x y (thin_bytes xs) (thin_bytes ys) e in
     let rest : xs ≡ ys = thin_bytes-injective xs ys f.1 in
-    let head : x ≡ y = f.0 in cc
+    let header : x ≡ y = f.0 in cc
 
 -- ---- reading digits, as the code takes its steps
 

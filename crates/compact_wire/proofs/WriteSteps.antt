@@ -140,8 +140,8 @@ field_done fs i f before out new all lt is written so_far fit =
     )
 
 pub sequence_done : (code : ℕ) (ws : List Wire) (old mid new : List ℕ) → mid ≡ old ++ sequence_header code (length ws) → new ≡ mid ++ canon_items (nodes_view ws) → new ≡ old ++ canon (list code (nodes_view ws))
-sequence_done code ws old mid new head written =
-    written ∙ ap (λ (z : List ℕ). z ++ canon_items (nodes_view ws)) head ∙ append_assoc old (sequence_header code (length ws)) (canon_items (nodes_view ws))
+sequence_done code ws old mid new header written =
+    written ∙ ap (λ (z : List ℕ). z ++ canon_items (nodes_view ws)) header ∙ append_assoc old (sequence_header code (length ws)) (canon_items (nodes_view ws))
     ∙ ap (λ (n : ℕ). old ++ (sequence_header code n ++ canon_items (nodes_view ws))) (sym (nodes_count-view ws))
 
 pub map_done : (key value : ℕ) (ps : List (Wire × Wire)) (old mid last new : List ℕ) → (length ps ≡ 0 → ⊥) → mid ≡ old ++ shortest (length ps) → last ≡ mid ++ (16 * key + value) ∷ [] → new ≡ last ++ canon_pairs (pairs_view ps)

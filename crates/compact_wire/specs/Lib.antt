@@ -5,7 +5,7 @@ pub mod Codes
 pub mod Spells
 pub mod Canon
 pub mod View
-pub mod Answers
+pub mod WireAnswers
 pub mod Reads
 pub mod Writes
 pub mod Thin

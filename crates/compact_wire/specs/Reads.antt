@@ -4,13 +4,13 @@ use Rattle.std.specs.Prelude.{ℕ, zero, suc, ◌+◌, ◌-◌, ◌*◌, ◌/◌
 use Rattle.exact_reading.specs.declared.stop.Stop.TheVariants.{Ended}
 use Rattle.compact_wire.specs.declared.kind.Kind.{Kind}
 use Rattle.compact_wire.specs.declared.kind.Kind.TheVariants as k
-use Rattle.compact_wire.specs.declared.heads.ListHead.{ListHead}
-use Rattle.compact_wire.specs.declared.heads.ListHead.TheVariants.{Sized as sized, Counted as counted}
-use Rattle.compact_wire.specs.declared.heads.EntryKinds.{EntryKinds}
-use Rattle.compact_wire.specs.declared.heads.FieldType.{FieldType}
-use Rattle.compact_wire.specs.declared.heads.FieldType.TheVariants.{Given as given, Of as of}
-use Rattle.compact_wire.specs.declared.heads.FieldHead.{FieldHead}
-use Rattle.compact_wire.specs.declared.heads.FieldHead.TheVariants.{End as stop, Step as step, Long as long}
+use Rattle.compact_wire.specs.declared.header.ListHeader.{ListHeader}
+use Rattle.compact_wire.specs.declared.header.ListHeader.TheVariants.{Sized as sized, Counted as counted}
+use Rattle.compact_wire.specs.declared.header.PairKinds.{PairKinds}
+use Rattle.compact_wire.specs.declared.header.FieldType.{FieldType}
+use Rattle.compact_wire.specs.declared.header.FieldType.TheVariants.{Given as given, Of as of}
+use Rattle.compact_wire.specs.declared.header.FieldHeader.{FieldHeader}
+use Rattle.compact_wire.specs.declared.header.FieldHeader.TheVariants.{End as stop, Step as step, Long as long}
 use Rattle.compact_wire.specs.Node.{Node, flag, i8, i16, i32, i64, double, binary, list, set, map, structure, Nodes, no_nodes, node, Pairs, no_pairs, pair, Fields, no_fields, field}
 use Rattle.compact_wire.specs.Bytes.{ByteReader}
 use Rattle.exact_reading.specs.Reading.{and_then, pure, one, taken}
@@ -90,21 +90,21 @@ scalar _ = λ bytes. Err Ended
 -- ---- lists and sets
 
 -- The header byte of a list or a set, by its size and kind. Without levels only an empty one has items of a container.
-abbrev pub list_head_of : ℕ → ℕ → Kind → Option ListHead
-list_head_of levels size kind =
+abbrev pub list_header_of : ℕ → ℕ → Kind → Option ListHeader
+list_header_of levels size kind =
     if size == 15 then Some (counted kind)
     else (if size == 0 || fits levels kind then Some (sized kind size) else None)
 
-unfoldable pub list_head : ℕ → ℕ → Option ListHead
-list_head levels b = option_and_then (list_head_of levels (b / 16)) (kind_of (b % 16))
+unfoldable pub list_header : ℕ → ℕ → Option ListHeader
+list_header levels b = option_and_then (list_header_of levels (b / 16)) (kind_of (b % 16))
 
 -- the kind of the items
-abbrev pub element : ListHead → Kind
+abbrev pub element : ListHeader → Kind
 element (sized kind size) = kind
 element (counted kind) = kind
 
 -- the number of items, which the header byte may leave to a number
-abbrev pub count : ℕ → ListHead → ByteReader ℕ
+abbrev pub count : ℕ → ListHeader → ByteReader ℕ
 count levels (sized kind size) = pure size
 count levels (counted kind) = number 4 (if fits levels kind then most_bytes else 0)
 
@@ -116,23 +116,23 @@ items value (suc n) = and_then value (λ x. and_then (items value n) (λ xs. pur
 -- a list or a set
 unfoldable pub sequence : (ℕ → Nodes → Node) → ℕ → (Kind → ByteReader Node) → ByteReader Node
 sequence make levels value =
-    and_then (one (list_head levels)) (λ h.
+    and_then (one (list_header levels)) (λ h.
     and_then (count levels h) (λ n. and_then (items (value (element h)) n) (λ xs. pure (make (code_of (element h)) xs))))
 
 -- ---- maps
 
-abbrev pub entry_kinds : Kind → Kind → EntryKinds
-entry_kinds key value = record { key = key; value = value }
+abbrev pub pair_kinds : Kind → Kind → PairKinds
+pair_kinds key value = record { key = key; value = value }
 
 -- both kinds, if both codes have one
-abbrev pub kinds_of : Option Kind → Option Kind → Option EntryKinds
-kinds_of (Some key) (Some value) = Some (entry_kinds key value)
+abbrev pub kinds_of : Option Kind → Option Kind → Option PairKinds
+kinds_of (Some key) (Some value) = Some (pair_kinds key value)
 kinds_of (Some key) None = None
 kinds_of None v = None
 
 -- the byte with the codes of keys and values
-unfoldable pub map_head : ℕ → ℕ → Option EntryKinds
-map_head levels b = kinds_of (kind_at levels (b / 16)) (kind_at levels (b % 16))
+unfoldable pub map_header : ℕ → ℕ → Option PairKinds
+map_header levels b = kinds_of (kind_at levels (b / 16)) (kind_at levels (b % 16))
 
 -- so many pairs
 unfoldable pub pairs : ByteReader Node → ByteReader Node → ℕ → ByteReader Pairs
@@ -140,13 +140,13 @@ pairs key value zero = pure no_pairs
 pairs key value (suc n) = and_then key (λ x. and_then value (λ y. and_then (pairs key value n) (λ xs. pure (pair x y xs))))
 
 -- the pairs behind their codes
-abbrev pub mapping_entries : (Kind → ByteReader Node) → ℕ → EntryKinds → ByteReader Node
-mapping_entries value n kinds = and_then (pairs (value kinds.key) (value kinds.value) n) (λ xs. pure (map (code_of kinds.key) (code_of kinds.value) xs))
+abbrev pub mapping_pairs : (Kind → ByteReader Node) → ℕ → PairKinds → ByteReader Node
+mapping_pairs value n kinds = and_then (pairs (value kinds.key) (value kinds.value) n) (λ xs. pure (map (code_of kinds.key) (code_of kinds.value) xs))
 
 -- what stands behind the size
 abbrev pub map_tail : ℕ → (Kind → ByteReader Node) → ℕ → ByteReader Node
 map_tail levels value zero = pure (map 0 0 no_pairs)
-map_tail levels value (suc n) = and_then (one (map_head levels)) (mapping_entries value (suc n))
+map_tail levels value (suc n) = and_then (one (map_header levels)) (mapping_pairs value (suc n))
 
 -- a map
 unfoldable pub mapping : ℕ → (Kind → ByteReader Node) → ByteReader Node
@@ -162,14 +162,14 @@ unfoldable pub field_type : ℕ → ℕ → Option FieldType
 field_type levels c = if c == 1 then Some (given true) else (if c == 2 then Some (given false) else option_and_then of_kind (kind_at levels c))
 
 -- a field's header by the step from the id before and what the code says
-abbrev pub head_of : ℤ → ℕ → FieldType → Option FieldHead
-head_of before delta type =
+abbrev pub header_of : ℤ → ℕ → FieldType → Option FieldHeader
+header_of before delta type =
     if delta == 0 then Some (long type)
     else (if int_lt (before +ℤ pos delta) (pos 32768) then Some (step (before +ℤ pos delta) type) else None)
 
 -- the first byte of a field, or the end of the fields
-unfoldable pub field_head : ℕ → ℤ → ℕ → Option FieldHead
-field_head levels before b = if b == 0 then Some stop else option_and_then (head_of before (b / 16)) (field_type levels (b % 16))
+unfoldable pub field_header : ℕ → ℤ → ℕ → Option FieldHeader
+field_header levels before b = if b == 0 then Some stop else option_and_then (header_of before (b / 16)) (field_type levels (b % 16))
 
 -- the value of a field
 abbrev pub typed : (Kind → ByteReader Node) → FieldType → ByteReader Node
@@ -181,7 +181,7 @@ abbrev pub with_field : (ℤ → ByteReader Fields) → ByteReader Node → ℤ 
 with_field next value id = and_then value (λ x. and_then (next id) (λ xs. pure (field id x xs)))
 
 -- what stands behind a field's first byte
-abbrev pub field_tail : (Kind → ByteReader Node) → (ℤ → ByteReader Fields) → FieldHead → ByteReader Fields
+abbrev pub field_tail : (Kind → ByteReader Node) → (ℤ → ByteReader Fields) → FieldHeader → ByteReader Fields
 field_tail value next stop = pure no_fields
 field_tail value next (step id type) = with_field next (typed value type) id
 field_tail value next (long type) = and_then (signed 2 (2 ^ 16 - 1)) (λ id. with_field next (typed value type) id)
@@ -189,7 +189,7 @@ field_tail value next (long type) = and_then (signed 2 (2 ^ 16 - 1)) (λ id. wit
 -- The first number bounds the fields. The count of the bytes is always enough.
 unfoldable pub fields : ℕ → (Kind → ByteReader Node) → ℕ → ℤ → ByteReader Fields
 fields levels value zero before = λ bytes. Err Ended
-fields levels value (suc turns) before = and_then (one (field_head levels before)) (field_tail value (fields levels value turns))
+fields levels value (suc turns) before = and_then (one (field_header levels before)) (field_tail value (fields levels value turns))
 
 -- the fields of a struct
 abbrev pub all_fields : ℕ → (Kind → ByteReader Node) → ByteReader Fields
@@ -213,11 +213,11 @@ value (suc levels) kind = container levels (value levels) kind
 -- ---- as the code takes its steps
 
 -- the id behind the first byte of a field
-abbrev pub start_tail : FieldHead → ByteReader (Option (ℤ × FieldType))
+abbrev pub start_tail : FieldHeader → ByteReader (Option (ℤ × FieldType))
 start_tail stop = pure None
 start_tail (step id type) = pure (Some (id, type))
 start_tail (long type) = and_then (signed 2 (2 ^ 16 - 1)) (λ id. pure (Some (id, type)))
 
 -- the whole header of the next field, or the end
 unfoldable pub field_start : ℕ → ℤ → ByteReader (Option (ℤ × FieldType))
-field_start levels before = and_then (one (field_head levels before)) start_tail
+field_start levels before = and_then (one (field_header levels before)) start_tail

@@ -15,11 +15,11 @@ IsSignedByte (negsuc n) b = (n < 128) × (b + n ≡ 255)
 -- ---- headers
 
 -- the header of a list or a set: four bits of size and the code, for sizes to 14; or 15, the code, and the size as a number
-pub data IsListHead : Kind → ℕ → List ℕ → Type 0 where
-  short_head : (kind : Kind) (n c : ℕ) (t : List ℕ) → n < 15 → c < 16 → kind_of c ≡ Some kind
-      → t ≡ (16 * n + c) ∷ [] → IsListHead kind n t
-  long_head : (kind : Kind) (n c : ℕ) (t u : List ℕ) → c < 16 → kind_of c ≡ Some kind → IsNumber 5 (2 ^ 31 - 1) n u
-      → t ≡ (16 * 15 + c) ∷ u → IsListHead kind n t
+pub data IsListHeader : Kind → ℕ → List ℕ → Type 0 where
+  short_list_header : (kind : Kind) (n c : ℕ) (t : List ℕ) → n < 15 → c < 16 → kind_of c ≡ Some kind
+      → t ≡ (16 * n + c) ∷ [] → IsListHeader kind n t
+  long_list_header : (kind : Kind) (n c : ℕ) (t u : List ℕ) → c < 16 → kind_of c ≡ Some kind → IsNumber 5 (2 ^ 31 - 1) n u
+      → t ≡ (16 * 15 + c) ∷ u → IsListHeader kind n t
 
 -- what a field's code says of its value: a flag stands in the code itself
 pub data IsFieldCode : ℕ → Option Bool → Kind → Type 0 where
@@ -28,11 +28,11 @@ pub data IsFieldCode : ℕ → Option Bool → Kind → Type 0 where
   other_code : (c : ℕ) (kind : Kind) → 2 < c → kind_of c ≡ Some kind → IsFieldCode c None kind
 
 -- the header of a field behind the field of the id before: the step to its id, 1 to 15, and the code; or the code, and the id as a number
-pub data IsFieldHead : ℤ → ℤ → ℕ → List ℕ → Type 0 where
-  step_head : (before : ℤ) (delta c : ℕ) (t : List ℕ) → 0 < delta → delta < 16 → c < 16 → (before +ℤ pos delta) <ℤ pos 32768
-      → t ≡ (16 * delta + c) ∷ [] → IsFieldHead before (before +ℤ pos delta) c t
-  long_field_head : (before id : ℤ) (c : ℕ) (t u : List ℕ) → c < 16 → IsNumber 3 (2 ^ 16 - 1) (zigzag id) u
-      → t ≡ c ∷ u → IsFieldHead before id c t
+pub data IsFieldHeader : ℤ → ℤ → ℕ → List ℕ → Type 0 where
+  step_field_header : (before : ℤ) (delta c : ℕ) (t : List ℕ) → 0 < delta → delta < 16 → c < 16 → (before +ℤ pos delta) <ℤ pos 32768
+      → t ≡ (16 * delta + c) ∷ [] → IsFieldHeader before (before +ℤ pos delta) c t
+  long_field_header : (before id : ℤ) (c : ℕ) (t u : List ℕ) → c < 16 → IsNumber 3 (2 ^ 16 - 1) (zigzag id) u
+      → t ≡ c ∷ u → IsFieldHeader before id c t
 
 -- ---- values
 
@@ -48,9 +48,9 @@ mutual
     is_double : (l : ℕ) (t : List ℕ) → length t ≡ 8 → AreBytes t → Spells l k.Double (double t) t
     is_binary : (l : ℕ) (x t h : List ℕ) → IsNumber 5 (2 ^ 31 - 1) (length x) h → AreBytes x
         → t ≡ h ++ x → Spells l k.Binary (binary x) t
-    is_list : (l : ℕ) (kind : Kind) (n : ℕ) (xs : Nodes) (t h u : List ℕ) → IsListHead kind n h → SpellsItems l kind n xs u
+    is_list : (l : ℕ) (kind : Kind) (n : ℕ) (xs : Nodes) (t h u : List ℕ) → IsListHeader kind n h → SpellsItems l kind n xs u
         → t ≡ h ++ u → Spells (suc l) k.List (list (code_of kind) xs) t
-    is_set : (l : ℕ) (kind : Kind) (n : ℕ) (xs : Nodes) (t h u : List ℕ) → IsListHead kind n h → SpellsItems l kind n xs u
+    is_set : (l : ℕ) (kind : Kind) (n : ℕ) (xs : Nodes) (t h u : List ℕ) → IsListHeader kind n h → SpellsItems l kind n xs u
         → t ≡ h ++ u → Spells (suc l) k.Set (set (code_of kind) xs) t
     is_no_map : (l : ℕ) (t : List ℕ) → IsNumber 5 (2 ^ 31 - 1) 0 t → Spells (suc l) k.Map (map 0 0 no_pairs) t
     is_map : (l : ℕ) (key value : Kind) (n c d : ℕ) (xs : Pairs) (t h u : List ℕ) → IsNumber 5 (2 ^ 31 - 1) (suc n) h
@@ -66,8 +66,8 @@ mutual
 
   -- so many pairs of two kinds
   pub data SpellsPairs : ℕ → Kind → Kind → ℕ → Pairs → List ℕ → Type 0 where
-    no_entries : (l : ℕ) (a b : Kind) (t : List ℕ) → t ≡ [] → SpellsPairs l a b 0 no_pairs t
-    entry : (l : ℕ) (a b : Kind) (n : ℕ) (x y : Node) (xs : Pairs) (t u v w : List ℕ)
+    no_pair : (l : ℕ) (a b : Kind) (t : List ℕ) → t ≡ [] → SpellsPairs l a b 0 no_pairs t
+    one_pair : (l : ℕ) (a b : Kind) (n : ℕ) (x y : Node) (xs : Pairs) (t u v w : List ℕ)
         → Spells l a x u → Spells l b y v → SpellsPairs l a b n xs w
         → t ≡ u ++ (v ++ w) → SpellsPairs l a b (suc n) (pair x y xs) t
 
@@ -75,10 +75,10 @@ mutual
   pub data SpellsFields : ℕ → ℤ → Fields → List ℕ → Type 0 where
     the_end : (l : ℕ) (before : ℤ) (t : List ℕ) → t ≡ 0 ∷ [] → SpellsFields l before no_fields t
     flag_field : (l : ℕ) (before id : ℤ) (c : ℕ) (x : Bool) (xs : Fields) (t h v : List ℕ)
-        → IsFieldHead before id c h → IsFieldCode c (Some x) k.Flag → SpellsFields l id xs v
+        → IsFieldHeader before id c h → IsFieldCode c (Some x) k.Flag → SpellsFields l id xs v
         → t ≡ h ++ v → SpellsFields l before (field id (flag x) xs) t
     other_field : (l : ℕ) (before id : ℤ) (c : ℕ) (kind : Kind) (x : Node) (xs : Fields) (t h u v : List ℕ)
-        → IsFieldHead before id c h → IsFieldCode c None kind → Spells l kind x u → SpellsFields l id xs v
+        → IsFieldHeader before id c h → IsFieldCode c None kind → Spells l kind x u → SpellsFields l id xs v
         → t ≡ h ++ (u ++ v) → SpellsFields l before (field id x xs) t
 
 -- the bytes spell the struct, which is at level 1 of 64

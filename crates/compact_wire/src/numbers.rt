@@ -1,11 +1,11 @@
 //! Numbers: seven bits to a byte, the lowest first, and zigzag for signed ones.
 
-ghost use Rattle.std.specs.Prelude.{◌≡◌, ◌<◌, ◌≤◌, ◌^◌, ◌++◌, ◌-◌, IfOk, OnOk, OnErr, vec_len, take};
-ghost use Rattle.exact_reading.specs.Reading.{Gives};
+ghost use Rattle.std.specs.Prelude.{◌≡◌, ◌<◌, ◌≤◌, ◌^◌, ◌++◌, ◌-◌, length, IfOk, OnOk, OnErr, vec_len, take};
+ghost use Rattle.exact_reading.specs.Reading.{Meets};
 ghost use Rattle.compact_wire.specs.Number.{shortest, unzigzag as unzigzag_of, zigzag as zigzag_of};
 ghost use Rattle.compact_wire.specs.Reads.{number, signed};
 
-use exact_reading::ReadError;
+use exact_reading::Stop;
 use std::alloc::AllocError;
 
 /// The number that writes `x`: 2x for `x` from 0 up, and -2x - 1 below.
@@ -78,47 +78,51 @@ fn push_digits(out: &mut Vec<u8>, x: u64) -> Result<(), AllocError>
 }
 
 /// A number up to `greatest` in any spelling of at most `room` bytes after the first, and the bytes after it.
-pub fn read_number(room: u32, greatest: u64, bytes: &[u8]) -> Result<(u64, &[u8]), ReadError>
-    ensures reads { Gives (λ x. (x.0, x.1.now)) result (number room greatest bytes.now) }
+pub fn read_number(room: u32, greatest: u64, bytes: &[u8]) -> Result<(u64, &[u8]), Stop>
+    ensures reads { Meets (λ x. (x.0, x.1.now)) result (number room greatest bytes.now) }
     ensures bound { IfOk result (λ x. x.0 ≤ greatest) }
+    ensures shorter { IfOk result (λ x. length x.1.now < length bytes.now) }
 {
     let Some((first, rest)) = bytes.split_first() else {
-        return Err(ReadError::ended());
+        return Err(Stop::Ended);
     };
     let first = u64::from(*first);
     if first < 128 {
         if first > greatest {
-            return Err(ReadError::refused(bytes.len()));
+            return Err(Stop::Refused(bytes.len()));
         }
         return Ok((first, rest));
     }
     let low = first - 128;
     if room == 0 || low > greatest {
-        return Err(ReadError::refused(bytes.len()));
+        return Err(Stop::Refused(bytes.len()));
     }
     let (high, rest) = read_number(room - 1, (greatest - low) / 128, rest)?;
     Ok((low + 128 * high, rest))
 }
 
 /// An `i16` in at most 3 bytes.
-pub fn read_i16(bytes: &[u8]) -> Result<(i16, &[u8]), ReadError>
-    ensures { Gives (λ x. (x.0, x.1.now)) result (signed 2 (2 ^ 16 - 1) bytes.now) }
+pub fn read_i16(bytes: &[u8]) -> Result<(i16, &[u8]), Stop>
+    ensures reads { Meets (λ x. (x.0, x.1.now)) result (signed 2 (2 ^ 16 - 1) bytes.now) }
+    ensures shorter { IfOk result (λ x. length x.1.now < length bytes.now) }
 {
     let (n, rest) = read_number(2, 0xffff, bytes)?;
     Ok((unzigzag_16(n), rest))
 }
 
 /// An `i32` in at most 5 bytes.
-pub fn read_i32(bytes: &[u8]) -> Result<(i32, &[u8]), ReadError>
-    ensures { Gives (λ x. (x.0, x.1.now)) result (signed 4 (2 ^ 32 - 1) bytes.now) }
+pub fn read_i32(bytes: &[u8]) -> Result<(i32, &[u8]), Stop>
+    ensures reads { Meets (λ x. (x.0, x.1.now)) result (signed 4 (2 ^ 32 - 1) bytes.now) }
+    ensures shorter { IfOk result (λ x. length x.1.now < length bytes.now) }
 {
     let (n, rest) = read_number(4, 0xffff_ffff, bytes)?;
     Ok((unzigzag_32(n), rest))
 }
 
 /// An `i64` in at most 10 bytes.
-pub fn read_i64(bytes: &[u8]) -> Result<(i64, &[u8]), ReadError>
-    ensures { Gives (λ x. (x.0, x.1.now)) result (signed 9 (2 ^ 64 - 1) bytes.now) }
+pub fn read_i64(bytes: &[u8]) -> Result<(i64, &[u8]), Stop>
+    ensures reads { Meets (λ x. (x.0, x.1.now)) result (signed 9 (2 ^ 64 - 1) bytes.now) }
+    ensures shorter { IfOk result (λ x. length x.1.now < length bytes.now) }
 {
     let (n, rest) = read_number(9, 0xffff_ffff_ffff_ffff, bytes)?;
     Ok((unzigzag(n), rest))

@@ -1,92 +1,20 @@
 //! Reading values, level by level.
 
-ghost use Rattle.std.specs.Prelude.{◌≡◌, ◌<◌, ◌≤◌, length, IfOk, pos};
-ghost use Rattle.exact_reading.specs.Reading.{Gives, one, and_then, pure};
-ghost use Rattle.compact_wire.specs.Reads.{list_head as list_head_at, count, items, sequence, value, element, map_head as map_head_at, mapping, pairs, mapping_entries, all_fields, field_start as field_start_at, typed};
+ghost use Rattle.std.specs.Prelude.{◌≡◌};
+ghost use Rattle.exact_reading.specs.Reading.{Gives, and_then, pure};
+ghost use Rattle.compact_wire.specs.Reads.{items, sequence, value, mapping, pairs, mapping_pairs, all_fields, typed};
 ghost use Rattle.compact_wire.specs.Node.{list, set, structure};
 ghost use Rattle.compact_wire.specs.View.{view, nodes_view, fields_view, pairs_view};
 
-use crate::heads::{
-    EntryKinds, FieldBefore, FieldHead, FieldType, ListHead, field_head, list_head, map_head,
-};
-use crate::kind::{Kind, code_of, fits};
-use crate::numbers::{read_i16, read_number};
+use crate::header::{FieldBefore, FieldType, PairKinds};
+use crate::headers::{element_of, read_count, read_field_start, read_list_header, read_map_header};
+use crate::kind::{Kind, code_of};
+use crate::numbers::read_number;
 use crate::scalars::read_scalar;
 use crate::wire::Wire;
-use exact_reading::ReadError;
+use exact_reading::{ReadError, Stop};
 use sqlite_items::Items;
 use std::alloc::Global;
-
-/// The header byte of a list or a set.
-fn read_list_head(levels: u32, bytes: &[u8]) -> Result<(ListHead, &[u8]), ReadError>
-    ensures { Gives (λ x. (x.0, x.1.now)) result (one (list_head_at levels) bytes.now) }
-{
-    let Some((first, rest)) = bytes.split_first() else {
-        return Err(ReadError::ended());
-    };
-    match list_head(levels, *first) {
-        Some(head) => Ok((head, rest)),
-        None => Err(ReadError::refused(bytes.len())),
-    }
-}
-
-/// How many items there are, by the header byte or the number behind it.
-fn read_count(levels: u32, head: ListHead, bytes: &[u8]) -> Result<(u64, &[u8]), ReadError>
-    ensures { Gives (λ x. (x.0, x.1.now)) result (count levels head bytes.now) }
-{
-    match head {
-        ListHead::Sized(_, size) => Ok((u64::from(size), bytes)),
-        ListHead::Counted(kind) => {
-            let greatest = if fits(levels, kind) { 0x7fff_ffff } else { 0 };
-            read_number(4, greatest, bytes)
-        }
-    }
-}
-
-/// The byte with the codes of a map's keys and values.
-fn read_map_head(levels: u32, bytes: &[u8]) -> Result<(EntryKinds, &[u8]), ReadError>
-    ensures { Gives (λ x. (x.0, x.1.now)) result (one (map_head_at levels) bytes.now) }
-{
-    let Some((first, rest)) = bytes.split_first() else {
-        return Err(ReadError::ended());
-    };
-    match map_head(levels, *first) {
-        Some(head) => Ok((head, rest)),
-        None => Err(ReadError::refused(bytes.len())),
-    }
-}
-
-/// The kind of the items.
-fn element_of(head: ListHead) -> Kind
-    ensures { result ≡ element head }
-{
-    match head {
-        ListHead::Sized(kind, _) | ListHead::Counted(kind) => kind,
-    }
-}
-
-/// The id of the next field and what its code says, or the end of the fields.
-#[tactic(auto, unfolding(crate::specs::Reads::field_start))]
-fn read_field_start(
-    levels: u32,
-    before: FieldBefore,
-    bytes: &[u8],
-) -> Result<(Option<(i16, FieldType)>, &[u8]), ReadError>
-    ensures { Gives (λ x. (x.0, x.1.now)) result (field_start_at levels before.id bytes.now) }
-{
-    let Some((first, rest)) = bytes.split_first() else {
-        return Err(ReadError::ended());
-    };
-    match field_head(levels, before.id, *first) {
-        None => Err(ReadError::refused(bytes.len())),
-        Some(FieldHead::End) => Ok((None, rest)),
-        Some(FieldHead::Step(id, field_type)) => Ok((Some((id, field_type)), rest)),
-        Some(FieldHead::Long(field_type)) => {
-            let (id, rest) = read_i16(rest)?;
-            Ok((Some((id, field_type)), rest))
-        }
-    }
-}
 
 /// A value of a kind, where so many levels may still open, and the bytes after it.
 #[cycle(value)]
@@ -95,7 +23,7 @@ pub fn read_value(
     levels: u32,
     kind: Kind,
     bytes: &[u8],
-) -> Result<(Wire, &[u8]), ReadError>
+) -> Result<(Wire, &[u8]), ReadError<Stop>>
     ensures { Gives (λ x. (view x.0, x.1.now)) result (value levels kind bytes.now) }
 {
     if levels == 0 {
@@ -114,12 +42,12 @@ pub fn read_value(
 /// A list whose items may open so many levels.
 #[cycle(value)]
 #[tactic(auto, unfolding(crate::specs::Reads::sequence))]
-fn read_list(alloc: Global, levels: u32, bytes: &[u8]) -> Result<(Wire, &[u8]), ReadError>
+fn read_list(alloc: Global, levels: u32, bytes: &[u8]) -> Result<(Wire, &[u8]), ReadError<Stop>>
     ensures { Gives (λ x. (view x.0, x.1.now)) result (sequence list levels (value levels) bytes.now) }
 {
-    let (head, rest) = read_list_head(levels, bytes)?;
-    let (n, rest) = read_count(levels, head, rest)?;
-    let kind = element_of(head);
+    let (header, rest) = read_list_header(levels, bytes)?;
+    let (n, rest) = read_count(levels, header, rest)?;
+    let kind = element_of(header);
     let (items, rest) = read_items(alloc, levels, kind, n, rest)?;
     let items = Items::from_vec(items);
     let code = code_of(kind);
@@ -129,12 +57,12 @@ fn read_list(alloc: Global, levels: u32, bytes: &[u8]) -> Result<(Wire, &[u8]), 
 /// The same for a set.
 #[cycle(value)]
 #[tactic(auto, unfolding(crate::specs::Reads::sequence))]
-fn read_set(alloc: Global, levels: u32, bytes: &[u8]) -> Result<(Wire, &[u8]), ReadError>
+fn read_set(alloc: Global, levels: u32, bytes: &[u8]) -> Result<(Wire, &[u8]), ReadError<Stop>>
     ensures { Gives (λ x. (view x.0, x.1.now)) result (sequence set levels (value levels) bytes.now) }
 {
-    let (head, rest) = read_list_head(levels, bytes)?;
-    let (n, rest) = read_count(levels, head, rest)?;
-    let kind = element_of(head);
+    let (header, rest) = read_list_header(levels, bytes)?;
+    let (n, rest) = read_count(levels, header, rest)?;
+    let kind = element_of(header);
     let (items, rest) = read_items(alloc, levels, kind, n, rest)?;
     let items = Items::from_vec(items);
     let code = code_of(kind);
@@ -149,7 +77,7 @@ fn read_items(
     kind: Kind,
     count: u64,
     bytes: &[u8],
-) -> Result<(Vec<Wire>, &[u8]), ReadError>
+) -> Result<(Vec<Wire>, &[u8]), ReadError<Stop>>
     ensures { Gives (λ x. (nodes_view x.0.items, x.1.now)) result (items (value levels kind) count bytes.now) }
 {
     let mut found = Vec::new(alloc);
@@ -159,12 +87,13 @@ fn read_items(
         found.push(item)?;
         rest = after;
     }
+    found.shrink_to_fit();
     Ok((found, rest))
 }
 
 /// A struct whose values may open so many levels.
 #[cycle(value)]
-fn read_struct(alloc: Global, levels: u32, bytes: &[u8]) -> Result<(Wire, &[u8]), ReadError>
+fn read_struct(alloc: Global, levels: u32, bytes: &[u8]) -> Result<(Wire, &[u8]), ReadError<Stop>>
     ensures { Gives (λ x. (view x.0, x.1.now)) result (and_then (all_fields levels (value levels)) (λ xs. pure (structure xs)) bytes.now) }
 {
     let (fields, rest) = read_fields(alloc, levels, bytes)?;
@@ -179,7 +108,7 @@ fn read_typed(
     levels: u32,
     field_type: FieldType,
     bytes: &[u8],
-) -> Result<(Wire, &[u8]), ReadError>
+) -> Result<(Wire, &[u8]), ReadError<Stop>>
     ensures { Gives (λ x. (view x.0, x.1.now)) result (typed (value levels) field_type bytes.now) }
 {
     match field_type {
@@ -194,7 +123,7 @@ fn read_fields(
     alloc: Global,
     levels: u32,
     bytes: &[u8],
-) -> Result<(Vec<(i16, Wire)>, &[u8]), ReadError>
+) -> Result<(Vec<(i16, Wire)>, &[u8]), ReadError<Stop>>
     ensures { Gives (λ x. (fields_view x.0.items, x.1.now)) result (all_fields levels (value levels) bytes.now) }
 {
     let mut found = Vec::new(alloc);
@@ -203,6 +132,7 @@ fn read_fields(
     'fields: loop {
         let (start, after) = read_field_start(levels, before, rest)?;
         let Some((id, field_type)) = start else {
+            found.shrink_to_fit();
             return Ok((found, after));
         };
         let (x, after) = read_typed(alloc, levels, field_type, after)?;
@@ -214,7 +144,7 @@ fn read_fields(
 
 /// A map whose keys and values may open so many levels.
 #[cycle(value)]
-fn read_map(alloc: Global, levels: u32, bytes: &[u8]) -> Result<(Wire, &[u8]), ReadError>
+fn read_map(alloc: Global, levels: u32, bytes: &[u8]) -> Result<(Wire, &[u8]), ReadError<Stop>>
     ensures { Gives (λ x. (view x.0, x.1.now)) result (mapping levels (value levels) bytes.now) }
 {
     let (n, rest) = read_number(4, 0x7fff_ffff, bytes)?;
@@ -229,20 +159,20 @@ fn read_map(alloc: Global, levels: u32, bytes: &[u8]) -> Result<(Wire, &[u8]), R
             rest,
         ));
     }
-    let (head, rest) = read_map_head(levels, rest)?;
-    read_entries(alloc, levels, head, n, rest)
+    let (header, rest) = read_map_header(levels, rest)?;
+    read_some_pairs(alloc, levels, header, n, rest)
 }
 
 /// The pairs of a map that has some.
 #[cycle(value)]
-fn read_entries(
+fn read_some_pairs(
     alloc: Global,
     levels: u32,
-    kinds: EntryKinds,
+    kinds: PairKinds,
     count: u64,
     bytes: &[u8],
-) -> Result<(Wire, &[u8]), ReadError>
-    ensures { Gives (λ x. (view x.0, x.1.now)) result (mapping_entries (value levels) count kinds bytes.now) }
+) -> Result<(Wire, &[u8]), ReadError<Stop>>
+    ensures { Gives (λ x. (view x.0, x.1.now)) result (mapping_pairs (value levels) count kinds bytes.now) }
 {
     let (pairs, rest) = read_pairs(alloc, levels, kinds.key, kinds.value, count, bytes)?;
     let pairs = Items::from_vec(pairs);
@@ -260,7 +190,7 @@ fn read_pairs(
     value_kind: Kind,
     count: u64,
     bytes: &[u8],
-) -> Result<(Vec<(Wire, Wire)>, &[u8]), ReadError>
+) -> Result<(Vec<(Wire, Wire)>, &[u8]), ReadError<Stop>>
     ensures { Gives (λ x. (pairs_view x.0.items, x.1.now)) result (pairs (value levels key_kind) (value levels value_kind) count bytes.now) }
 {
     let mut found = Vec::new(alloc);
@@ -271,5 +201,6 @@ fn read_pairs(
         found.push((key, item))?;
         rest = after;
     }
+    found.shrink_to_fit();
     Ok((found, rest))
 }

@@ -24,6 +24,16 @@ fn rewritten(alloc: Global, bytes: &[u8]) -> Result<Option<Vec<u8>>, AllocError>
 }
 
 #[test]
+fn an_overlong_number(rt: HostRuntime) -> Result<(), Fail> {
+    // Field 1, an i32 of 1 in three bytes where one is enough, and the end.
+    let bytes = b"\x15\x82\x80\x00\x00";
+    let wire = read_wire(rt.alloc(), bytes)?;
+    let written = write_wire(rt.alloc(), &wire)?;
+    assert_eq!(rt; written.as_slice(), b"\x15\x02\x00".as_slice());
+    Ok(())
+}
+
+#[test]
 fn spellings_and_refusals(rt: HostRuntime) {
     for (bytes, want) in [
         // no field; an i32 of 0 in one byte and in five; a long header where a short one fits

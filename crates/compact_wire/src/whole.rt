@@ -1,7 +1,7 @@
 //! Reading a whole struct.
 
 ghost use Rattle.std.specs.Prelude.{◌≡◌, ◌-◌};
-ghost use Rattle.compact_wire.specs.Answers.{Answers, AnswersOnly};
+ghost use Rattle.compact_wire.specs.WireAnswers.{IsWireAnswer, IsOnlyWireAnswer};
 
 use crate::fault::WireFault;
 use crate::kind::Kind;
@@ -13,9 +13,9 @@ use std::alloc::Global;
 /// The struct that the bytes spell, all of them. Numbers may be overlong within their limits, and headers short or long.
 pub fn read_wire(alloc: Global, bytes: &[u8]) -> Result<Wire, WireFault>
     // Each answer has its cause.
-    ensures cause { Answers bytes.now result }
+    ensures cause { IsWireAnswer bytes.now result }
     // Where the cause of an answer holds, it is the answer, unless memory runs out.
-    ensures only { AnswersOnly bytes.now result }
+    ensures only { IsOnlyWireAnswer bytes.now result }
 {
     match read_value(alloc, 64, Kind::Struct, bytes) {
         Ok((wire, rest)) => {
@@ -25,7 +25,7 @@ pub fn read_wire(alloc: Global, bytes: &[u8]) -> Result<Wire, WireFault>
                 Err(WireFault::Trailing(place(bytes.len(), rest.len())))
             }
         }
-        Err(ReadError::Memory) => Err(WireFault::NoMemory),
+        Err(ReadError::NoMemory) => Err(WireFault::NoMemory),
         Err(ReadError::Stop(Stop::Ended)) => Err(WireFault::Truncated),
         Err(ReadError::Stop(Stop::Refused(left))) => {
             Err(WireFault::Malformed(place(bytes.len(), left)))

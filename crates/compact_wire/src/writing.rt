@@ -7,7 +7,7 @@ ghost use Rattle.compact_wire.specs.Canon.{canon, canon_items, canon_pairs, cano
 ghost use Rattle.compact_wire.specs.View.{view, nodes_view, pairs_view, fields_view};
 ghost use Rattle.compact_wire.specs.Writes.{canon_field, CodesFit, CodesFitAll, CodesFitPairs, CodesFitFields};
 
-use crate::heads::FieldBefore;
+use crate::header::FieldBefore;
 use crate::numbers::{push_number, zigzag};
 use crate::wire::Wire;
 use std::alloc::{AllocError, Global};

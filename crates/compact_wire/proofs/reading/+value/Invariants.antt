@@ -36,8 +36,8 @@ invariant-read_items-loop l = with_nodes l.found.items (items (value l.levels l.
 abbrev pub decreases-read_map : goal.decreases-read_map
 decreases-read_map l = 5 * l.levels + 3
 
-abbrev pub decreases-read_entries : goal.decreases-read_entries
-decreases-read_entries l = 5 * l.levels + 2
+abbrev pub decreases-read_some_pairs : goal.decreases-read_some_pairs
+decreases-read_some_pairs l = 5 * l.levels + 2
 
 abbrev pub decreases-read_pairs : goal.decreases-read_pairs
 decreases-read_pairs l = 5 * l.levels + 1

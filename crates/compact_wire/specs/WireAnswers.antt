@@ -9,12 +9,12 @@ use Rattle.compact_wire.specs.Spells.{SpellsWire}
 use Rattle.compact_wire.specs.View.{view}
 
 -- the cause of an answer
-abbrev pub Answers : List ℕ → Result Wire WireFault → Type 0
-Answers bytes (Ok w) = SpellsWire (view w) bytes
-Answers bytes (Err Truncated) = IsTruncated SpellsWire bytes
-Answers bytes (Err (Malformed p)) = IsMalformed SpellsWire bytes p
-Answers bytes (Err (Trailing p)) = IsTrailing SpellsWire bytes p
-Answers bytes (Err NoMemory) = Unit {0}
+abbrev pub IsWireAnswer : List ℕ → Result Wire WireFault → Type 0
+IsWireAnswer bytes (Ok w) = SpellsWire (view w) bytes
+IsWireAnswer bytes (Err Truncated) = IsTruncated SpellsWire bytes
+IsWireAnswer bytes (Err (Malformed p)) = IsMalformed SpellsWire bytes p
+IsWireAnswer bytes (Err (Trailing p)) = IsTrailing SpellsWire bytes p
+IsWireAnswer bytes (Err NoMemory) = Unit {0}
 
 -- the fault, or that memory ran out
 abbrev pub FaultOrMemory : Result Wire WireFault → WireFault → Type 0
@@ -26,7 +26,7 @@ TreeOrMemory (Ok x) w = view x ≡ w
 TreeOrMemory (Err fault) w = fault ≡ NoMemory
 
 -- where a cause holds, its answer is given, or memory ran out
-pub record AnswersOnly (bytes : List ℕ) (r : Result Wire WireFault) : Type 0 where
+pub record IsOnlyWireAnswer (bytes : List ℕ) (r : Result Wire WireFault) : Type 0 where
   pub spelled : (w : Node) → SpellsWire w bytes → TreeOrMemory r w
   pub truncated : IsTruncated SpellsWire bytes → FaultOrMemory r Truncated
   pub malformed : (p : ℕ) → IsMalformed SpellsWire bytes p → FaultOrMemory r (Malformed p)

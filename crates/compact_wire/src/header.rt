@@ -1,7 +1,7 @@
 //! What header bytes say.
 
 ghost use Rattle.std.specs.Prelude.{◌≡◌};
-ghost use Rattle.compact_wire.specs.Reads.{kind_at as kind_for_at, list_head as list_head_at, field_type as field_type_at, field_head as field_head_at, map_head as map_head_at};
+ghost use Rattle.compact_wire.specs.Reads.{kind_at as kind_for_at, list_header as list_header_at, field_type as field_type_at, field_header as field_header_at, map_header as map_header_at};
 
 use crate::kind::{Kind, fits, kind_of};
 
@@ -13,7 +13,7 @@ pub struct FieldBefore {
 
 /// The header of a list or a set.
 #[derive(Clone, Copy, Debug)]
-pub enum ListHead {
+pub enum ListHeader {
     /// The size stands in the byte.
     Sized(Kind, u32),
     /// The size stands behind it.
@@ -22,7 +22,7 @@ pub enum ListHead {
 
 /// The kinds of a map's keys and values.
 #[derive(Clone, Copy, Debug)]
-pub struct EntryKinds {
+pub struct PairKinds {
     pub key: Kind,
     pub value: Kind,
 }
@@ -38,7 +38,7 @@ pub enum FieldType {
 
 /// The header byte of a field.
 #[derive(Clone, Copy, Debug)]
-pub enum FieldHead {
+pub enum FieldHeader {
     /// There is no other field.
     End,
     /// The field has this id.
@@ -57,30 +57,30 @@ pub fn kind_at(levels: u32, code: u8) -> Option<Kind>
 }
 
 /// The header of a list or a set, from its first byte.
-#[tactic(auto, unfolding(crate::specs::Reads::list_head))]
-pub fn list_head(levels: u32, byte: u8) -> Option<ListHead>
-    ensures { result ≡ list_head_at levels byte }
+#[tactic(auto, unfolding(crate::specs::Reads::list_header))]
+pub fn list_header(levels: u32, byte: u8) -> Option<ListHeader>
+    ensures { result ≡ list_header_at levels byte }
 {
     let kind = kind_of(byte % 16)?;
     let size = byte / 16;
     if size == 15 {
-        return Some(ListHead::Counted(kind));
+        return Some(ListHeader::Counted(kind));
     }
     if size == 0 || fits(levels, kind) {
-        Some(ListHead::Sized(kind, size as u32))
+        Some(ListHeader::Sized(kind, size as u32))
     } else {
         None
     }
 }
 
 /// The kinds of a map's keys and values, from their byte.
-#[tactic(auto, unfolding(crate::specs::Reads::map_head))]
-pub fn map_head(levels: u32, byte: u8) -> Option<EntryKinds>
-    ensures { result ≡ map_head_at levels byte }
+#[tactic(auto, unfolding(crate::specs::Reads::map_header))]
+pub fn map_header(levels: u32, byte: u8) -> Option<PairKinds>
+    ensures { result ≡ map_header_at levels byte }
 {
     let key = kind_at(levels, byte / 16)?;
     let value = kind_at(levels, byte % 16)?;
-    Some(EntryKinds { key, value })
+    Some(PairKinds { key, value })
 }
 
 /// What a field's code says, where so many levels may still open.
@@ -96,21 +96,21 @@ fn field_type(levels: u32, code: u8) -> Option<FieldType>
 }
 
 /// The header of a field behind the field of an id, from its first byte.
-#[tactic(auto, unfolding(crate::specs::Reads::field_head))]
-pub fn field_head(levels: u32, before: i16, byte: u8) -> Option<FieldHead>
-    ensures { result ≡ field_head_at levels before byte }
+#[tactic(auto, unfolding(crate::specs::Reads::field_header))]
+pub fn field_header(levels: u32, before: i16, byte: u8) -> Option<FieldHeader>
+    ensures { result ≡ field_header_at levels before byte }
 {
     if byte == 0 {
-        return Some(FieldHead::End);
+        return Some(FieldHeader::End);
     }
     let field_type = field_type(levels, byte % 16)?;
     let delta = byte / 16;
     if delta == 0 {
-        return Some(FieldHead::Long(field_type));
+        return Some(FieldHeader::Long(field_type));
     }
     let id = i32::from(before) + i32::from(delta);
     if id < 32768 {
-        Some(FieldHead::Step(id as i16, field_type))
+        Some(FieldHeader::Step(id as i16, field_type))
     } else {
         None
     }

@@ -1,0 +1,4 @@
+pub mod Events
+pub mod Frames
+pub mod Steps
+pub mod Cursor

@@ -1,0 +1,14 @@
+//! The events of a struct of the wire, one after the other.
+#![tactic(auto)]
+
+mod cursor;
+mod frame;
+mod opening;
+mod stack;
+mod stepping;
+
+pub use cursor::WireEvents;
+pub use frame::WireEvent;
+
+#[cfg(test)]
+mod tests;

@@ -1,7 +1,7 @@
 pub mod Collecting
 pub mod DefinitionSteps
+pub mod GrowLaws
 pub mod MemberSteps
 pub mod SizeLaws
 pub mod Sorting
-pub mod StableSort
 pub mod StructSteps

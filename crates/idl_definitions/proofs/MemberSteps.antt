@@ -3,9 +3,9 @@ use Rattle.std.proofs.Common.{◌≡◌, ℕ, List, [], ◌∷◌, ◌++◌, map
 use Rattle.std.specs.Prelude.{ℤ}
 use Rattle.name_index.specs.declared.index.NameIndex.{NameIndex}
 use Rattle.name_index.specs.Names.{Indexes}
-use Rattle.idl_tokens.specs.declared.token.Span.{Span}
-use Rattle.idl_tokens.specs.Spans.{text_at}
-use Rattle.idl_grammar.specs.declared.fault.Stop.{Stop}
+use Rattle.base_lists.specs.declared.span.Span.{Span}
+use Rattle.base_lists.specs.Spans.{text_at}
+use Rattle.idl_grammar.specs.declared.fault.LineFault.{LineFault}
 use Rattle.idl_fields.specs.declared.draft.Member.{Member}
 use Rattle.idl_profile.specs.Types as types
 use Rattle.idl_profile.specs.Judged.{Members, next_number}
@@ -34,5 +34,5 @@ pub names_push : (text name : List ℕ) (index : NameIndex) (xs ys : List Member
 names_push text name index xs ys x is more h =
     subst (Indexes index) (ap (λ (n : List ℕ). names_of (map (member_of text) xs) ++ n ∷ []) is ∙ one_more text xs x ∙ ap (λ (z : List Member). names_of (map (member_of text) z)) (sym more)) h
 
-abbrev pub name_is : List ℕ → Option Span → Result (Option (List ℕ)) Stop
+abbrev pub name_is : List ℕ → Option Span → Result (Option (List ℕ)) LineFault
 name_is text o = Ok (turn_name text o)

@@ -1,20 +1,15 @@
 -- The code's measures are the measures.
-use Rattle.std.proofs.Common.{◌≡◌, ℕ, suc, ◌<◌, ◌≤◌, nat_lt, refl, sym, ap, ◌∙◌, arith, zero, [], ◌∷◌, length, map, get_or, drop}
+use Rattle.std.proofs.Common.{◌≡◌, ℕ, suc, ◌<◌, ◌≤◌, nat_lt, refl, ap, ◌∙◌, arith, zero, [], ◌∷◌, length, map, get_or, drop}
 use Rattle.std.proofs.lemmas.Bool.Decides.{nat_tests}
 use Rattle.idl_fields.specs.declared.sizes.Size.{Size}
 use Rattle.idl_profile.specs.declared.kinds.Need.TheVariants.{Plain, Required, Optional}
 use Rattle.idl_profile.specs.declared.kinds.Need.{Need}
-use Rattle.idl_profile.specs.declared.kinds.Scalar.TheVariants as k
-use Rattle.std.specs.Prelude.{Box}
-use Rattle.std.proofs.Common.{Global}
-use Rattle.idl_fields.specs.declared.draft.Expr.{Expr}
-use Rattle.idl_fields.specs.declared.draft.Expr.TheFolds.{fold-roll-Expr}
-use Rattle.idl_fields.specs.declared.draft.Expr.TheVariants as v
-use Rattle.idl_fields.specs.declared.draft.Expr.TheVariants.{rolls-List, rolls-Set, rolls-Map}
-use Rattle.idl_fields.specs.View.{type_of, type_step, fields_of, default_of}
-use Rattle.idl_tokens.specs.Spans.{text_at}
-use Rattle.idl_fields.specs.declared.draft.Field.{Field}
-use Rattle.idl_profile.specs.Meaning.{Ty, list, set, map as m_map}
+use Rattle.idl_profile.specs.declared.kinds.BaseType.TheVariants as k
+use Rattle.idl_fields.specs.Nodes.{type_at}
+use Rattle.idl_fields.specs.View.{written_type, written_fields, default_of}
+use Rattle.base_lists.specs.Spans.{text_at}
+use Rattle.idl_fields.specs.declared.draft.WrittenField.{WrittenField}
+use Rattle.idl_profile.specs.Meaning.{Ty, Entry}
 use Rattle.std.specs.Prelude.{ℤ, List}
 use Rattle.idl_profile.specs.Types as types
 use Rattle.idl_profile.specs.Types.{TypeTree, list_of, set_of, map_of, named, Fields, no_fields}
@@ -69,29 +64,32 @@ measured-group w bs = ap judged_size (size-group w bs) ∙ judged-measured (name
 
 pub ruleset size_steps = (size-row, size-bag, size-table)
 
-pub view_list : (e : Expr) (x : Box Expr Global) → e ≡ v.List x → type_of e ≡ list (type_of x.value)
-view_list e x is = ap type_of is ∙ ap type_of (sym (rolls-List x)) ∙ fold-roll-Expr Ty type_step _
-
-pub view_set : (e : Expr) (x : Box Expr Global) → e ≡ v.Set x → type_of e ≡ set (type_of x.value)
-view_set e x is = ap type_of is ∙ ap type_of (sym (rolls-Set x)) ∙ fold-roll-Expr Ty type_step _
-
-pub view_map : (e : Expr) (x y : Box Expr Global) → e ≡ v.Map x y → type_of e ≡ m_map (type_of x.value) (type_of y.value)
-view_map e x y is = ap type_of is ∙ ap type_of (sym (rolls-Map x y)) ∙ fold-roll-Expr Ty type_step _
-
 -- ---- the fields of a struct, from the last one
 
-abbrev pub of_fields : List ℕ → List TypeTree → List Field → Size
-of_fields text ts fs = inside (fields_in ts (fields_of text fs))
+abbrev pub of_fields : List ℕ → List Entry → List TypeTree → List WrittenField → Size
+of_fields text es ts fs = inside (fields_in ts (written_fields text es fs))
 
-pub inside-none : (text : List ℕ) (ts : List TypeTree) (fs : List Field) → make_size 0 0 0 0 ≡ of_fields text ts (drop (length fs) fs)
+pub inside-none : (text : List ℕ) (es : List Entry) (ts : List TypeTree) (fs : List WrittenField) → make_size 0 0 0 0 ≡ of_fields text es ts (drop (length fs) fs)
 unfolding inside
-inside-none text ts [] = refl
-inside-none text ts (f ∷ fs) = inside-none text ts fs
+inside-none text es ts [] = refl
+inside-none text es ts (f ∷ fs) = inside-none text es ts fs
 
-pub inside-step : (text : List ℕ) (ts : List TypeTree) (fs : List Field) (j : ℕ) (f : Field) → j < length fs → f ≡ get_or fs j f
-    → with_branch f.need (size (tree ts (type_of f.ty))) (of_fields text ts (drop (suc j) fs)) ≡ of_fields text ts (drop j fs)
-inside-step text ts [] j f h e = absurd (omega arith)
-inside-step text ts (g ∷ fs) zero f h e =
-    ap (λ (z : Field). with_branch z.need (size (tree ts (type_of z.ty))) (of_fields text ts fs)) e
-    ∙ inside-branch g.id.id (text_at text g.name) g.need (tree ts (type_of g.ty)) (default_of text g.default) (fields_in ts (fields_of text fs))
-inside-step text ts (g ∷ fs) (suc j) f h e = inside-step text ts fs j f (omega arith) e
+pub inside-step : (text : List ℕ) (es : List Entry) (ts : List TypeTree) (fs : List WrittenField) (j : ℕ) (f : WrittenField) → j < length fs → f ≡ get_or fs j f
+    → with_branch f.need (size (tree ts (written_type es f.ty))) (of_fields text es ts (drop (suc j) fs)) ≡ of_fields text es ts (drop j fs)
+inside-step text es ts [] j f h e = absurd (omega arith)
+inside-step text es ts (g ∷ fs) zero f h e =
+    ap (λ (z : WrittenField). with_branch z.need (size (tree ts (written_type es z.ty))) (of_fields text es ts fs)) e
+    ∙ inside-branch g.id.id (text_at text g.name) g.need (tree ts (written_type es g.ty)) (default_of text g.default) (fields_in ts (written_fields text es fs))
+inside-step text es ts (g ∷ fs) (suc j) f h e = inside-step text es ts fs j f (omega arith) e
+
+-- ---- the types in their list
+
+pub type-size-at : (ts : List TypeTree) (types : List Ty) (j : ℕ) (d : Size) → j < length (map (λ t. size (tree ts t)) types) → get_or (map (λ t. size (tree ts t)) types) j d ≡ size (tree ts (type_at types j))
+type-size-at ts [] j d h = absurd (omega arith)
+type-size-at ts (t ∷ types) zero d h = refl
+type-size-at ts (t ∷ types) (suc j) d h = type-size-at ts types j d (omega arith)
+
+pub type-size-none : (ts : List TypeTree) (types : List Ty) (j : ℕ) → length (map (λ t. size (tree ts t)) types) ≤ j → size (scalar_tree k.Flag) ≡ size (tree ts (type_at types j))
+type-size-none ts [] j h = refl
+type-size-none ts (t ∷ types) zero h = absurd (omega arith)
+type-size-none ts (t ∷ types) (suc j) h = type-size-none ts types j (omega arith)

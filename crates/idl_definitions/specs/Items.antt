@@ -1,6 +1,6 @@
 -- What the values of this crate stand for.
 use Rattle.std.specs.Prelude.{ℕ, List, map, Option, Result, Ok, Err, option_map}
-use Rattle.idl_tokens.specs.Spans.{text_at}
+use Rattle.base_lists.specs.Spans.{text_at}
 use Rattle.idl_grammar.specs.declared.fault.Fault.{Fault}
 use Rattle.idl_grammar.specs.Grammar.{Turn, enter, wrong}
 use Rattle.idl_definitions.specs.declared.items.Choice.{Choice}
@@ -10,9 +10,10 @@ use Rattle.idl_definitions.specs.declared.members.Members.{Members}
 use Rattle.idl_definitions.specs.declared.items.Begin.{Begin}
 use Rattle.idl_definitions.specs.declared.items.Begin.TheVariants as b
 use Rattle.idl_profile.specs.Judged as j
+use Rattle.idl_profile.specs.Meaning as m
 use Rattle.idl_profile.specs.Text as t
-use Rattle.idl_tokens.specs.declared.token.Span.{Span}
-use Rattle.idl_fields.specs.declared.draft.Expr.{Expr}
+use Rattle.base_lists.specs.declared.span.Span.{Span}
+use Rattle.idl_fields.specs.declared.draft.TypeNode.{TypeNode}
 use Rattle.idl_fields.specs.declared.draft.Entry.{Entry}
 use Rattle.idl_fields.specs.View.{member_of, alias_of, parts_of}
 use Rattle.idl_fields.specs.Indexed.{IndexesMembers}
@@ -24,11 +25,11 @@ members_of text ms = record { list = map (member_of text) ms.found.items; coming
 abbrev pub choice_of : List ℕ → Choice → t.Choice
 choice_of text c = t.make_choice (text_at text c.name) (map (member_of text) c.members.items)
 
-abbrev pub item_of : List ℕ → Item → t.Item
-item_of text i.Nothing = t.nothing
-item_of text (i.Alias a) = t.alias (alias_of text a)
-item_of text (i.Choice c) = t.choice (choice_of text c)
-item_of text (i.Structure p) = t.structure (parts_of text p)
+abbrev pub item_of : List ℕ → List m.Entry → Item → t.Item
+item_of text es i.Nothing = t.nothing
+item_of text es (i.Alias a) = t.alias (alias_of text es a)
+item_of text es (i.Choice c) = t.choice (choice_of text c)
+item_of text es (i.Structure p) = t.structure (parts_of text es p)
 
 -- the index of an enum is that of its members
 abbrev pub IsIndexedItem : List ℕ → Item → Type 0
@@ -52,5 +53,5 @@ turn_of (Err f) = wrong f
 abbrev pub begins : Option Begin → Option j.Begin
 begins o = option_map begin_as o
 
-abbrev pub entry : Span → Expr → Entry
+abbrev pub entry : Span → TypeNode → Entry
 entry w t = record { name = w; ty = t }

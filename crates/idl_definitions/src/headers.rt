@@ -1,21 +1,24 @@
 //! Headers, typedefs and members of enums.
 
 ghost use Rattle.std.specs.Prelude.{◌≡◌, List, ℕ, Some, option_map};
-ghost use Rattle.idl_tokens.specs.Spans.{toks, text_at as text_of_span};
+ghost use Rattle.base_lists.specs.Spans.{text_at as text_of_span};
+ghost use Rattle.idl_tokens.specs.Spans.{toks};
 ghost use Rattle.idl_grammar.specs.Grammar.{token as token_that};
-ghost use Rattle.idl_grammar.specs.Run.{run, Gives};
+ghost use Rattle.exact_reading.specs.Reading.{Gives};
+ghost use Rattle.idl_grammar.specs.Run.{run};
 ghost use Rattle.idl_profile.specs.Judged.{a_scope, word_or_literal, a_member_number, a_literal};
 ghost use Rattle.idl_profile.specs.Text.{namespace, cpp_include, typedef_parts, own_number};
-ghost use Rattle.idl_fields.specs.View.{entries_of, alias_of};
+ghost use Rattle.idl_fields.specs.View.{entries_in, alias_of};
 ghost use Rattle.idl_fields.specs.Indexed.{IsIndexed};
 
+use base_lists::{Span, text_at};
 use idl_fields::draft::{Alias, Whole};
 use idl_fields::{
     Scope, has_backslash, is_mark, none_left, read_end, read_mark, read_new_name, read_sep,
     read_type, wrong,
 };
 use idl_grammar::{Fault, ReadError};
-use idl_tokens::{Placed, Span, Token, text_at};
+use idl_tokens::{Placed, Token};
 use std::alloc::Global;
 
 fn read_scope(tokens: &[Placed]) -> Result<&[Placed], ReadError>
@@ -72,9 +75,9 @@ pub fn read_typedef<'a>(
     tokens: &'a [Placed],
 ) -> Result<(Alias, &'a [Placed]), ReadError>
     requires { IsIndexed text.now scope.now }
-    ensures { Gives (λ x. (alias_of text.now x.0, toks text.now x.1.now)) result (run (typedef_parts (entries_of text.now scope.now.entries.items)) (toks text.now tokens.now)) }
+    ensures { Gives (λ x. (alias_of text.now (entries_in text.now scope.now) x.0, toks text.now x.1.now)) result (run (typedef_parts (entries_in text.now scope.now)) (toks text.now tokens.now)) }
 {
-    let (ty, rest) = read_type(alloc, text, scope, 32, false, tokens)?;
+    let (ty, rest) = read_type(alloc, text, scope, 32, tokens)?;
     let (name, rest) = read_new_name(text, &scope.names, rest)?;
     let rest = read_end(text, rest)?;
     Ok((Alias { name, ty }, rest))

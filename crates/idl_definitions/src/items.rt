@@ -1,6 +1,6 @@
 //! What a definition or a header adds to what was defined.
+use base_lists::Span;
 use idl_fields::draft::{Alias, Member, Parts};
-use idl_tokens::Span;
 use name_index::NameIndex;
 
 /// What an enum says, with the index of its members' names.

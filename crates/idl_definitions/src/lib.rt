@@ -2,6 +2,7 @@
 #![tactic(auto)]
 
 mod collect;
+mod growing;
 mod headers;
 pub mod items;
 mod measure;
@@ -10,3 +11,6 @@ mod structs;
 mod whole;
 
 pub use whole::read_definitions;
+
+#[cfg(test)]
+mod tests;

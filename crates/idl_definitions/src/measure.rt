@@ -3,15 +3,18 @@
 ghost use Rattle.std.specs.Prelude.{◌≡◌, ◌+◌, List, [], ℕ, max, map};
 ghost use Rattle.idl_profile.specs.Types as types;
 ghost use Rattle.idl_profile.specs.Types.{TypeTree, list_of, set_of, map_of, named, Fields, no_fields};
-ghost use Rattle.idl_profile.specs.Measures.{fields as fields_in, scalar_tree, at, tree};
-ghost use Rattle.idl_profile.specs.Judged.{measured as measured_of};
+ghost use Rattle.idl_profile.specs.Measures.{fields as fields_in, scalar_tree, at, tree, trees};
+ghost use Rattle.idl_profile.specs.Judged.{measured_struct};
 ghost use Rattle.idl_definitions.specs.Sizes.{add, size, inside, row_size as row_size_of, table_size as table_size_of, with_branch as with_branch_of, struct_size as struct_size_of, judged_size as judged_size_of, extra as extra_of};
-ghost use Rattle.idl_fields.specs.View.{type_of, fields_of};
+ghost use Rattle.idl_profile.specs.Meaning.{Ty};
+ghost use Rattle.idl_fields.specs.Nodes.{type_at, node_type};
+ghost use Rattle.idl_fields.specs.View.{types_in, entries_in, named_in, word_type, contained, written_type, written_fields};
+ghost use Rattle.idl_definitions.specs.Sized.{IsSized};
 
-use idl_fields::Size;
-use idl_fields::draft::{Expr, Field};
+use idl_fields::draft::{Container, TypeNode, TypeWord, WrittenField, WrittenType};
+use idl_fields::{Scope, Size};
 use idl_grammar::Fault;
-use idl_profile::{Need, Scalar};
+use idl_profile::{BaseType, Need};
 
 fn capped(a: u32, b: u32) -> u32
     ensures { result ≡ add a b }
@@ -26,41 +29,41 @@ fn greater(a: u32, b: u32) -> u32
 }
 
 #[tactic(auto, unfolding(crate::specs::Sizes::size))]
-fn scalar_size(s: Scalar) -> Size
+fn scalar_size(s: BaseType) -> Size
     ensures { result ≡ size (scalar_tree s) }
 {
     match s {
-        Scalar::Flag => Size {
+        BaseType::Flag => Size {
             depth: 1,
             nodes: 1,
             bits: 1,
             widest: 0,
         },
-        Scalar::I8 => Size {
+        BaseType::I8 => Size {
             depth: 1,
             nodes: 1,
             bits: 8,
             widest: 0,
         },
-        Scalar::I16 => Size {
+        BaseType::I16 => Size {
             depth: 1,
             nodes: 1,
             bits: 16,
             widest: 0,
         },
-        Scalar::I32 => Size {
+        BaseType::I32 => Size {
             depth: 1,
             nodes: 1,
             bits: 32,
             widest: 0,
         },
-        Scalar::I64 => Size {
+        BaseType::I64 => Size {
             depth: 1,
             nodes: 1,
             bits: 64,
             widest: 0,
         },
-        Scalar::Text | Scalar::Bytes => Size {
+        BaseType::Text | BaseType::Bytes => Size {
             depth: 1,
             nodes: 3,
             bits: 64,
@@ -142,32 +145,77 @@ fn size_at(sizes: &[Size], n: u32) -> Size
 {
     match sizes.get(n as usize) {
         Some(s) => *s,
-        None => scalar_size(Scalar::Flag),
+        None => scalar_size(BaseType::Flag),
+    }
+}
+
+/// The size of the type at a place.
+fn type_size_at(sizes: &[Size], place: u32) -> Size
+    ensures { (types : List Ty) (ts : List TypeTree) → sizes.now ≡ map (λ t. size (tree ts t)) types → result ≡ size (tree ts (type_at types place)) }
+{
+    match sizes.get(place as usize) {
+        Some(s) => *s,
+        None => scalar_size(BaseType::Flag),
     }
 }
 
 /// The size of a type.
 #[tactic(auto, using(crate::proofs::SizeLaws::size_steps))]
-fn size_of_type(sizes: &[Size], ty: &Expr) -> Size
-    ensures { (ts : List TypeTree) → sizes.now ≡ map size ts → result ≡ size (tree ts (type_of ty.now)) }
+pub fn size_of_node(text: &str, scope: &Scope, node: TypeNode) -> Size
+    requires { IsSized text.now scope.now }
+    ensures { result ≡ size (tree (trees (named_in text.now scope.now)) (node_type (types_in scope.now.types) node)) }
 {
-    match ty {
-        Expr::Scalar(s) => scalar_size(*s),
-        Expr::Enum(n) => size_at(sizes, *n),
-        Expr::Struct(n) => size_at(sizes, *n),
-        Expr::List(x) => row_size(size_of_type(sizes, x)),
-        Expr::Set(x) => row_size(size_of_type(sizes, x)),
-        Expr::Map(x, y) => {
-            let x = size_of_type(sizes, x);
-            let y = size_of_type(sizes, y);
+    match node {
+        TypeNode::Base(s) => scalar_size(s),
+        TypeNode::Enum(n) => size_at(&scope.sizes, n),
+        TypeNode::Struct(n) => size_at(&scope.sizes, n),
+        TypeNode::List(x) => row_size(type_size_at(&scope.type_sizes, x)),
+        TypeNode::Set(x) => row_size(type_size_at(&scope.type_sizes, x)),
+        TypeNode::Map(x, y) => {
+            let x = type_size_at(&scope.type_sizes, x);
+            let y = type_size_at(&scope.type_sizes, y);
             table_size(x, y)
         }
     }
 }
 
+// The size of a type that is one word.
+fn size_of_word(text: &str, scope: &Scope, word: TypeWord) -> Size
+    requires { IsSized text.now scope.now }
+    ensures { result ≡ size (tree (trees (named_in text.now scope.now)) (word_type (entries_in text.now scope.now) word)) }
+{
+    size_of_node(text, scope, scope.type_of(word))
+}
+
+// The size of a type of this size with a container around it.
+#[tactic(auto, using(crate::proofs::SizeLaws::size_steps))]
+fn size_around(text: &str, scope: &Scope, inside: Size, container: Container) -> Size
+    requires { IsSized text.now scope.now }
+    ensures { (t : Ty) → inside ≡ size (tree (trees (named_in text.now scope.now)) t) → result ≡ size (tree (trees (named_in text.now scope.now)) (contained (entries_in text.now scope.now) t container)) }
+{
+    match container {
+        Container::List => row_size(inside),
+        Container::Set => row_size(inside),
+        Container::Map(key) => table_size(size_of_word(text, scope, key), inside),
+    }
+}
+
+/// The size of a type as it is written.
+fn size_of_type(text: &str, scope: &Scope, ty: &WrittenType) -> Size
+    requires { IsSized text.now scope.now }
+    ensures { result ≡ size (tree (trees (named_in text.now scope.now)) (written_type (entries_in text.now scope.now) ty.now)) }
+{
+    let mut total = size_of_word(text, scope, ty.word);
+    for container in &ty.around {
+        total = size_around(text, scope, total, *container);
+    }
+    total
+}
+
 /// The size of all fields.
-fn inside_of(sizes: &[Size], fields: &[Field]) -> Size
-    ensures { (text : List ℕ) (ts : List TypeTree) → sizes.now ≡ map size ts → result ≡ inside (fields_in ts (fields_of text fields.now)) }
+fn inside_of(text: &str, scope: &Scope, fields: &[WrittenField]) -> Size
+    requires { IsSized text.now scope.now }
+    ensures { result ≡ inside (fields_in (trees (named_in text.now scope.now)) (written_fields text.now (entries_in text.now scope.now) fields.now)) }
 {
     let mut total = Size {
         depth: 0,
@@ -177,16 +225,17 @@ fn inside_of(sizes: &[Size], fields: &[Field]) -> Size
     };
     for i in (0..fields.len()).rev() {
         let field = &fields[i];
-        total = with_branch(field.need, size_of_type(sizes, &field.ty), total);
+        total = with_branch(field.need, size_of_type(text, scope, &field.ty), total);
     }
     total
 }
 
 /// What the measures of a struct have against it.
-pub fn measured(sizes: &[Size], fields: &[Field]) -> Result<(), Fault>
-    ensures { (text : List ℕ) (ts : List TypeTree) → sizes.now ≡ map size ts → result ≡ measured_of (named (types.struct_of [] (fields_in ts (fields_of text fields.now)))) }
+pub fn measured(text: &str, scope: &Scope, fields: &[WrittenField]) -> Result<(), Fault>
+    requires { IsSized text.now scope.now }
+    ensures { result ≡ measured_struct (named_in text.now scope.now) (written_fields text.now (entries_in text.now scope.now) fields.now) }
 {
-    judged_size(struct_size(inside_of(sizes, fields)))
+    judged_size(struct_size(inside_of(text, scope, fields)))
 }
 
 /// The size of an enum.
@@ -203,8 +252,9 @@ pub fn enum_size() -> Size
 }
 
 /// The size of a struct with these fields.
-pub fn size_of_struct(sizes: &[Size], fields: &[Field]) -> Size
-    ensures { (text w : List ℕ) (ts : List TypeTree) → sizes.now ≡ map size ts → result ≡ size (named (types.struct_of w (fields_in ts (fields_of text fields.now)))) }
+pub fn size_of_struct(text: &str, scope: &Scope, fields: &[WrittenField]) -> Size
+    requires { IsSized text.now scope.now }
+    ensures { (w : List ℕ) → result ≡ size (named (types.struct_of w (fields_in (trees (named_in text.now scope.now)) (written_fields text.now (entries_in text.now scope.now) fields.now)))) }
 {
-    struct_size(inside_of(sizes, fields))
+    struct_size(inside_of(text, scope, fields))
 }

@@ -1,9 +1,12 @@
 //! Members of enums.
 
 ghost use Rattle.std.specs.Prelude.{◌≡◌, map, List, ℕ, option_map, IfOk, IfErr, OnOk};
-ghost use Rattle.idl_tokens.specs.Spans.{toks, tok_of, spot_of, text_at as text_of_span};
+ghost use Rattle.base_lists.specs.Spans.{text_at as text_of_span};
+ghost use Rattle.idl_tokens.specs.Spans.{toks, tok_of, spot_of};
+ghost use Rattle.exact_reading.specs.declared.stop.ReadError.TheVariants as errors;
 ghost use Rattle.idl_grammar.specs.Grammar.{first as first_of, loop as loop_of};
-ghost use Rattle.idl_grammar.specs.Run.{run, Gives, outcome};
+ghost use Rattle.exact_reading.specs.Reading.{Gives};
+ghost use Rattle.idl_grammar.specs.Run.{run, outcome};
 ghost use Rattle.idl_profile.specs.Judged.{a_member, no_members, next_number as next_number_of, is_mark as is_mark_of};
 ghost use Rattle.idl_profile.specs.Text.{with_member, member, enum_body, enum_parts};
 ghost use Rattle.idl_fields.specs.View.{member_of, turn_name, scope_of};
@@ -12,10 +15,11 @@ ghost use Rattle.idl_definitions.specs.Items.{members_of, choice_of};
 
 use crate::headers::read_own_number;
 use crate::items::Choice;
+use base_lists::{Span, text_at};
 use idl_fields::draft::{Member, Whole};
 use idl_fields::{Scope, is_mark, new_name, none_left, read_end, read_mark, read_new_name, wrong};
 use idl_grammar::{Fault, ReadError};
-use idl_tokens::{Placed, Span, text_at};
+use idl_tokens::Placed;
 use name_index::NameIndex;
 use std::alloc::Global;
 
@@ -44,7 +48,7 @@ impl Members {
     fn add(&mut self, alloc: Global, text: &str, member: Member) -> Result<(), ReadError>
         ensures same { OnOk result (members_of text.now self.new ≡ with_member (members_of text.now self.old) (text_of_span text.now member.name) member.number.value) }
         ensures indexed { IndexesMembers text.now self.old.names self.old.found.items → OnOk result (IndexesMembers text.now self.new.names self.new.found.items) }
-        ensures error { IfErr result (λ e. e ≡ ReadError.Memory) }
+        ensures error { IfErr result (λ e. e ≡ errors.NoMemory) }
     {
         self.names.push(alloc, text_at(text, member.name))?;
         self.coming = next_number(member.number);

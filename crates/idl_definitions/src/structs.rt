@@ -3,15 +3,16 @@
 ghost use Rattle.std.specs.Prelude.{◌≡◌, ℕ, List};
 ghost use Rattle.idl_tokens.specs.Spans.{toks, tok_of};
 ghost use Rattle.idl_grammar.specs.Grammar.{token as token_that};
-ghost use Rattle.idl_grammar.specs.Run.{run, Gives};
+ghost use Rattle.exact_reading.specs.Reading.{Gives};
+ghost use Rattle.idl_grammar.specs.Run.{run};
 ghost use Rattle.idl_profile.specs.Judged.{a_struct_end};
 ghost use Rattle.idl_profile.specs.Text.{struct_parts, struct_body};
-ghost use Rattle.idl_fields.specs.View.{fields_of, nameds_of, scope_of, parts_of};
+ghost use Rattle.idl_fields.specs.View.{entries_in, named_in, written_fields, scope_of, parts_of};
 ghost use Rattle.idl_fields.specs.Indexed.{IsIndexed};
 ghost use Rattle.idl_definitions.specs.Sized.{IsSized};
 
 use crate::measure::measured;
-use idl_fields::draft::{Field, Parts};
+use idl_fields::draft::{Parts, WrittenField};
 use idl_fields::{
     Scope, is_mark, none_left, read_end, read_fields, read_mark, read_new_name, wrong,
 };
@@ -19,12 +20,12 @@ use idl_grammar::{Fault, ReadError};
 use idl_tokens::{Placed, Token};
 use std::alloc::Global;
 
-fn struct_end(text: &str, scope: &Scope, fields: &[Field], token: Token) -> Result<(), Fault>
+fn struct_end(text: &str, scope: &Scope, fields: &[WrittenField], token: Token) -> Result<(), Fault>
     requires { IsSized text.now scope.now }
-    ensures { result ≡ a_struct_end (nameds_of text.now scope.now.named.items) (fields_of text.now fields.now) (tok_of text.now token) }
+    ensures { result ≡ a_struct_end (named_in text.now scope.now) (written_fields text.now (entries_in text.now scope.now) fields.now) (tok_of text.now token) }
 {
     if is_mark(b'}', token) {
-        measured(&scope.sizes, fields)
+        measured(text, scope, fields)
     } else {
         Err(Fault::Syntax)
     }
@@ -33,11 +34,11 @@ fn struct_end(text: &str, scope: &Scope, fields: &[Field], token: Token) -> Resu
 fn read_struct_end<'a>(
     text: &str,
     scope: &Scope,
-    fields: &[Field],
+    fields: &[WrittenField],
     tokens: &'a [Placed],
 ) -> Result<&'a [Placed], ReadError>
     requires { IsSized text.now scope.now }
-    ensures { Gives (λ x. (tt, toks text.now x.now)) result (run (token_that (a_struct_end (nameds_of text.now scope.now.named.items) (fields_of text.now fields.now))) (toks text.now tokens.now)) }
+    ensures { Gives (λ x. (tt, toks text.now x.now)) result (run (token_that (a_struct_end (named_in text.now scope.now) (written_fields text.now (entries_in text.now scope.now) fields.now))) (toks text.now tokens.now)) }
 {
     let Some((first, rest)) = tokens.split_first() else {
         return Err(none_left());
@@ -55,10 +56,10 @@ fn read_struct_body<'a>(
     text: &str,
     scope: &Scope,
     tokens: &'a [Placed],
-) -> Result<(Vec<Field>, &'a [Placed]), ReadError>
+) -> Result<(Vec<WrittenField>, &'a [Placed]), ReadError>
     requires sized { IsSized text.now scope.now }
     requires indexed { IsIndexed text.now scope.now }
-    ensures { Gives (λ x. (fields_of text.now x.0.items, toks text.now x.1.now)) result (run (struct_body (scope_of text.now scope.now)) (toks text.now tokens.now)) }
+    ensures { Gives (λ x. (written_fields text.now (entries_in text.now scope.now) x.0.items, toks text.now x.1.now)) result (run (struct_body (scope_of text.now scope.now)) (toks text.now tokens.now)) }
 {
     let rest = read_mark(b'{', tokens)?;
     let (fields, rest) = read_fields(alloc, text, scope, rest)?;
@@ -76,7 +77,7 @@ pub fn read_struct<'a>(
 ) -> Result<(Parts, &'a [Placed]), ReadError>
     requires sized { IsSized text.now scope.now }
     requires indexed { IsIndexed text.now scope.now }
-    ensures { Gives (λ x. (parts_of text.now x.0, toks text.now x.1.now)) result (run (struct_parts (scope_of text.now scope.now)) (toks text.now tokens.now)) }
+    ensures { Gives (λ x. (parts_of text.now (entries_in text.now scope.now) x.0, toks text.now x.1.now)) result (run (struct_parts (scope_of text.now scope.now)) (toks text.now tokens.now)) }
 {
     let (name, rest) = read_new_name(text, &scope.names, tokens)?;
     let (fields, rest) = read_struct_body(alloc, text, scope, rest)?;

@@ -2,11 +2,13 @@
 ghost use Rattle.std.specs.Prelude.{◌≡◌, ℕ, List, IfOk};
 ghost use Rattle.idl_tokens.specs.Spans.{toks, tok_of, spot_of};
 ghost use Rattle.idl_tokens.specs.Tokens.{Tok};
-ghost use Rattle.idl_grammar.specs.Run.{run, Gives, outcome};
-ghost use Rattle.idl_profile.specs.Judged.{one_of as one_of_lem, no_definition, begin_of as begin_of_word, a_definition};
+ghost use Rattle.exact_reading.specs.Reading.{Gives};
+ghost use Rattle.idl_grammar.specs.Run.{run, outcome};
+ghost use Rattle.name_index.specs.Names.{is_among as is_among_of};
+ghost use Rattle.idl_profile.specs.Judged.{no_definition, begin_of as begin_of_word, a_definition};
 ghost use Rattle.idl_profile.specs.Meaning.{Scope as Defined};
 ghost use Rattle.idl_profile.specs.Text.{item as item_that, whole};
-ghost use Rattle.idl_fields.specs.View.{scope_of};
+ghost use Rattle.idl_fields.specs.View.{entries_in, scope_of};
 ghost use Rattle.idl_fields.specs.Indexed.{IsIndexed};
 ghost use Rattle.idl_definitions.specs.Items.{item_of, begin_as, turn_of, begins, IsIndexedItem};
 ghost use Rattle.idl_definitions.specs.Sized.{IsSized};
@@ -16,16 +18,17 @@ use crate::headers::{read_include, read_namespace, read_typedef};
 use crate::items::{Begin, Item};
 use crate::members::read_enum;
 use crate::structs::read_struct;
-use idl_fields::{Scope, none_left, one_of, wrong};
+use base_lists::text_at;
+use idl_fields::{Scope, TypeNodes, is_among, none_left, wrong};
 use idl_grammar::{Fault, ReadError};
-use idl_tokens::{Placed, Token, text_at};
+use idl_tokens::{Placed, Token};
 use name_index::NameIndex;
 use std::alloc::Global;
 
 fn is_refused(w: &str) -> bool
-    ensures { result ≡ one_of_lem no_definition w.now }
+    ensures { result ≡ is_among_of no_definition w.now }
 {
-    one_of(&["union", "exception", "service", "const", "include"], w)
+    is_among(&["union", "exception", "service", "const", "include"], w)
 }
 
 // What a word begins where a definition stands.
@@ -79,7 +82,7 @@ fn read_item<'a>(
 ) -> Result<(Item, &'a [Placed]), ReadError>
     requires sized { IsSized text.now scope.now }
     requires indexed { IsIndexed text.now scope.now }
-    ensures reads { Gives (λ x. (item_of text.now x.0, toks text.now x.1.now)) result (run (item_that (scope_of text.now scope.now) (begin_as begin)) (toks text.now tokens.now)) }
+    ensures reads { Gives (λ x. (item_of text.now (entries_in text.now scope.now) x.0, toks text.now x.1.now)) result (run (item_that (scope_of text.now scope.now) (begin_as begin)) (toks text.now tokens.now)) }
     ensures indexed { IfOk result (λ x. IsIndexedItem text.now x.0) }
 {
     match begin {
@@ -120,6 +123,8 @@ pub fn read_definitions<'a>(
         named: Vec::new(alloc),
         members: Vec::new(alloc),
         sizes: Vec::new(alloc),
+        types: TypeNodes::new(alloc),
+        type_sizes: Vec::new(alloc),
     };
     let mut rest = tokens;
     'definitions: loop {

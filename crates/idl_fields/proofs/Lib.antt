@@ -3,3 +3,5 @@ pub mod FieldSteps
 pub mod Finding
 pub mod FoundSteps
 pub mod MemberPlaces
+pub mod NodeLaws
+pub mod OuterLaws

@@ -1,23 +1,63 @@
 //! What has been read of a text.
 
-use idl_profile::{Need, Scalar};
-use idl_tokens::Span;
+use base_lists::Span;
+use idl_profile::{BaseType, Need};
 
-/// A type; an enum or struct by its place in the definition.
-#[derive(Debug, Drop)]
-pub enum Expr {
-    Scalar(Scalar),
+/// A type of the definition: an enum or a struct by its place among them, a list, a set or a map by the places of its parts
+/// among the types.
+#[derive(Clone, Copy, Debug)]
+pub enum TypeNode {
+    Base(BaseType),
     Enum(u32),
     Struct(u32),
-    List(Box<Expr>),
-    Set(Box<Expr>),
-    Map(Box<Expr>, Box<Expr>),
+    List(u32),
+    Set(u32),
+    Map(u32, u32),
 }
 
-/// A type's first word.
-#[derive(Debug, Drop)]
+/// A type that is one word: a base type, or a name by its place among the names that stand for types.
+#[derive(Clone, Copy, Debug)]
+pub enum TypeWord {
+    Base(BaseType),
+    Name(u32),
+}
+
+/// The word that begins a container.
+#[derive(Clone, Copy, Debug)]
+pub enum Opening {
+    List,
+    Set,
+    Map,
+}
+
+/// A type's first word: a whole type, or a container whose parts follow.
+#[derive(Clone, Copy, Debug)]
 pub enum Head {
-    Plain(Expr),
+    Plain(TypeWord),
+    Open(Opening),
+}
+
+/// A container around a type; a map with its keys.
+#[derive(Clone, Copy, Debug)]
+pub enum Container {
+    List,
+    Set,
+    Map(TypeWord),
+}
+
+/// A type as it is written: its innermost word, and the containers around it, the innermost first.
+#[derive(Debug, Drop)]
+pub struct WrittenType {
+    pub word: TypeWord,
+    pub around: Vec<Container>,
+}
+
+/// What a type is outermost. A default is judged by it.
+#[derive(Clone, Copy, Debug)]
+pub enum Outermost {
+    Base(BaseType),
+    Enum(u32),
+    Struct(u32),
     List,
     Set,
     Map,
@@ -27,7 +67,7 @@ pub enum Head {
 #[derive(Debug, Drop)]
 pub struct Entry {
     pub name: Span,
-    pub ty: Expr,
+    pub ty: TypeNode,
 }
 
 /// The id of a field.
@@ -62,15 +102,26 @@ pub enum Start {
 #[derive(Debug, Drop)]
 pub struct Typed {
     pub need: Need,
-    pub ty: Expr,
+    pub ty: WrittenType,
     pub name: Span,
 }
 
+/// A field as it is written.
 #[derive(Debug, Drop)]
-pub struct Field {
+pub struct WrittenField {
     pub id: Id,
     pub need: Need,
-    pub ty: Expr,
+    pub ty: WrittenType,
+    pub name: Span,
+    pub default: Default,
+}
+
+/// A field of a struct of the definition.
+#[derive(Debug, Drop)]
+pub struct DraftField {
+    pub id: Id,
+    pub need: Need,
+    pub ty: TypeNode,
     pub name: Span,
     pub default: Default,
 }
@@ -81,22 +132,23 @@ pub struct Member {
     pub number: Whole,
 }
 
+/// An enum or a struct of the definition.
 #[derive(Debug, Drop)]
-pub enum Named {
+pub enum DraftNamed {
     Enum(Span, Vec<Member>),
-    Struct(Span, Vec<Field>),
+    Struct(Span, Vec<DraftField>),
 }
 
 /// What a struct says.
 #[derive(Debug, Drop)]
 pub struct Parts {
     pub name: Span,
-    pub fields: Vec<Field>,
+    pub fields: Vec<WrittenField>,
 }
 
 /// What a typedef says.
 #[derive(Debug, Drop)]
 pub struct Alias {
     pub name: Span,
-    pub ty: Expr,
+    pub ty: WrittenType,
 }

@@ -2,16 +2,22 @@
 
 ghost use Rattle.std.specs.Prelude.{◌≡◌, ◌<◌, ℕ, List, [], option_map};
 ghost use Rattle.idl_tokens.specs.Tokens.{Tok};
-ghost use Rattle.idl_tokens.specs.Spans.{toks, tok_of, spot_of, text_at as text_of_span};
+ghost use Rattle.base_lists.specs.Spans.{text_at as text_of_span};
+ghost use Rattle.idl_tokens.specs.Spans.{toks, tok_of, spot_of};
 ghost use Rattle.idl_grammar.specs.Grammar.{token as token_that, look};
-ghost use Rattle.idl_grammar.specs.Run.{run, Gives, outcome};
+ghost use Rattle.exact_reading.specs.Reading.{Gives};
+ghost use Rattle.idl_grammar.specs.Run.{run, outcome};
 ghost use Rattle.idl_profile.specs.Judged.{a_field, an_id, number_default as number_default_of, scalar_number as scalar_number_of, an_int, literal_default as literal_default_of, scalar_literal as scalar_literal_of, scalar_word as scalar_word_of, enum_default as enum_default_of, bracket_default as bracket_default_of, brace_default as brace_default_of, word_default as word_default_of, a_default, a_default_end};
 ghost use Rattle.idl_profile.specs.Text.{need_of, default as default_that, field as field_that, typed as typed_that, fields as fields_that};
-ghost use Rattle.idl_fields.specs.View.{type_of, entries_of, fields_of, field_of, nameds_of, default_of, judged_start, start_of as start_view, judged_id, scope_of, typed_of};
+ghost use Rattle.idl_profile.specs.Meaning.{Ty, Entry as Meant};
+ghost use Rattle.idl_fields.specs.View.{written_type, outer, outer_type, entries_in, written_fields, written_field, named_in, default_of, judged_start, start_of as start_view, judged_id, scope_of, typed_of};
 ghost use Rattle.idl_fields.specs.Indexed.{IsIndexed};
 ghost use Rattle.idl_fields.specs.Found.{IsFound};
+ghost use Rattle.idl_fields.specs.Nodes.{node_type};
 
-use crate::draft::{Default, Expr, Field, Id, Start, Typed, Whole};
+use crate::draft::{
+    Container, Default, Id, Outermost, Start, TypeNode, Typed, Whole, WrittenField, WrittenType,
+};
 use crate::found::Found;
 use crate::names::read_new_name;
 use crate::notes::read_end;
@@ -19,9 +25,10 @@ use crate::reading::{is_mark, is_word, none_left, read_mark, wrong};
 use crate::scope::{Scope, enum_default};
 use crate::types::read_type;
 use crate::words::has_backslash;
+use base_lists::{Span, text_at};
 use idl_grammar::{Fault, ReadError};
-use idl_profile::{Need, Scalar};
-use idl_tokens::{Placed, Span, Token, text_at};
+use idl_profile::{BaseType, Need};
+use idl_tokens::{Placed, Token};
 use std::alloc::Global;
 
 fn read_need<'a>(text: &str, tokens: &'a [Placed]) -> Result<(Need, &'a [Placed]), ReadError>
@@ -41,7 +48,7 @@ fn read_need<'a>(text: &str, tokens: &'a [Placed]) -> Result<(Need, &'a [Placed]
 
 /// The number as an id, or its fault.
 fn id_of(found: &Found, z: Whole) -> Result<Id, Fault>
-    ensures { (text : List ℕ) → IsFound text found.now → judged_id result ≡ an_id (fields_of text found.now.fields.items) z.value }
+    ensures { (text : List ℕ) (es : List Meant) → IsFound text es found.now → judged_id result ≡ an_id (written_fields text es found.now.fields.items) z.value }
 {
     if found.has_id(z) {
         Err(Fault::RepeatedId)
@@ -54,8 +61,7 @@ fn id_of(found: &Found, z: Whole) -> Result<Id, Fault>
 
 /// Whether another field begins here.
 fn field_turn(text: &str, found: &Found, placed: &Placed) -> Result<Option<Id>, ReadError>
-    requires { IsFound text.now found.now }
-    ensures { (after : Tok) → Gives (λ x. option_map (λ i. i.id) x) result (outcome (a_field (fields_of text.now found.now.fields.items) (tok_of text.now placed.now.token) after) (spot_of text.now placed.now)) }
+    ensures { (es : List Meant) (after : Tok) → IsFound text.now es found.now → Gives (λ x. option_map (λ i. i.id) x) result (outcome (a_field (written_fields text.now es found.now.fields.items) (tok_of text.now placed.now.token) after) (spot_of text.now placed.now)) }
 {
     match placed.token {
         Token::Number(None) => Err(wrong(Fault::Unsupported, placed)),
@@ -71,44 +77,48 @@ fn field_turn(text: &str, found: &Found, placed: &Placed) -> Result<Option<Id>, 
     }
 }
 
-fn number_default(ty: &Expr, z: Whole) -> Result<Start, Fault>
-    ensures { (text : List ℕ) → judged_start text result ≡ number_default_of (type_of ty.now) z.value }
+fn number_default(ty: Outermost, z: Whole) -> Result<Start, Fault>
+    ensures { (text : List ℕ) → judged_start text result ≡ number_default_of (outer_type ty) z.value }
 {
     match ty {
-        Expr::Scalar(s) => scalar_number(*s, z),
-        Expr::Enum(_) => int_default(-2147483648, 2147483647, z),
-        Expr::Struct(_) | Expr::List(_) | Expr::Set(_) | Expr::Map(_, _) => Err(Fault::BadDefault),
-    }
-}
-
-fn literal_default(ty: &Expr, x: Span) -> Result<Start, Fault>
-    ensures { (text : List ℕ) → judged_start text result ≡ literal_default_of (type_of ty.now) (text_of_span text x) }
-{
-    match ty {
-        Expr::Scalar(s) => scalar_literal(*s, x),
-        Expr::Enum(_) | Expr::Struct(_) | Expr::List(_) | Expr::Set(_) | Expr::Map(_, _) => Err(
+        Outermost::Base(s) => scalar_number(s, z),
+        Outermost::Enum(_) => int_default(-2147483648, 2147483647, z),
+        Outermost::Struct(_) | Outermost::List | Outermost::Set | Outermost::Map => Err(
             Fault::BadDefault,
         ),
     }
 }
 
-fn bracket_default(ty: &Expr) -> Result<Start, Fault>
-    ensures { (text : List ℕ) → judged_start text result ≡ bracket_default_of (type_of ty.now) }
+fn literal_default(ty: Outermost, x: Span) -> Result<Start, Fault>
+    ensures { (text : List ℕ) → judged_start text result ≡ literal_default_of (outer_type ty) (text_of_span text x) }
 {
     match ty {
-        Expr::List(_) | Expr::Set(_) => Ok(Start::ClosedBy(b']')),
-        Expr::Scalar(_) | Expr::Enum(_) | Expr::Struct(_) | Expr::Map(_, _) => Err(
+        Outermost::Base(s) => scalar_literal(s, x),
+        Outermost::Enum(_)
+        | Outermost::Struct(_)
+        | Outermost::List
+        | Outermost::Set
+        | Outermost::Map => Err(Fault::BadDefault),
+    }
+}
+
+fn bracket_default(ty: Outermost) -> Result<Start, Fault>
+    ensures { (text : List ℕ) → judged_start text result ≡ bracket_default_of (outer_type ty) }
+{
+    match ty {
+        Outermost::List | Outermost::Set => Ok(Start::ClosedBy(b']')),
+        Outermost::Base(_) | Outermost::Enum(_) | Outermost::Struct(_) | Outermost::Map => Err(
             Fault::BadDefault,
         ),
     }
 }
 
-fn brace_default(ty: &Expr) -> Result<Start, Fault>
-    ensures { (text : List ℕ) → judged_start text result ≡ brace_default_of (type_of ty.now) }
+fn brace_default(ty: Outermost) -> Result<Start, Fault>
+    ensures { (text : List ℕ) → judged_start text result ≡ brace_default_of (outer_type ty) }
 {
     match ty {
-        Expr::Set(_) | Expr::Map(_, _) | Expr::Struct(_) => Ok(Start::ClosedBy(b'}')),
-        Expr::Scalar(_) | Expr::Enum(_) | Expr::List(_) => Err(Fault::BadDefault),
+        Outermost::Set | Outermost::Map | Outermost::Struct(_) => Ok(Start::ClosedBy(b'}')),
+        Outermost::Base(_) | Outermost::Enum(_) | Outermost::List => Err(Fault::BadDefault),
     }
 }
 
@@ -122,11 +132,11 @@ fn int_default(low: i64, high: i64, z: Whole) -> Result<Start, Fault>
     }
 }
 
-fn scalar_number(s: Scalar, z: Whole) -> Result<Start, Fault>
+fn scalar_number(s: BaseType, z: Whole) -> Result<Start, Fault>
     ensures { (text : List ℕ) → judged_start text result ≡ scalar_number_of s z.value }
 {
     match s {
-        Scalar::Flag => {
+        BaseType::Flag => {
             if z.value == 0 {
                 Ok(Start::Complete(Default::Flag(false)))
             } else if z.value == 1 {
@@ -135,30 +145,30 @@ fn scalar_number(s: Scalar, z: Whole) -> Result<Start, Fault>
                 Err(Fault::BadDefault)
             }
         }
-        Scalar::I8 => int_default(-128, 127, z),
-        Scalar::I16 => int_default(-32768, 32767, z),
-        Scalar::I32 => int_default(-2147483648, 2147483647, z),
-        Scalar::I64 => Ok(Start::Complete(Default::Int(z))),
-        Scalar::Text | Scalar::Bytes => Err(Fault::BadDefault),
+        BaseType::I8 => int_default(-128, 127, z),
+        BaseType::I16 => int_default(-32768, 32767, z),
+        BaseType::I32 => int_default(-2147483648, 2147483647, z),
+        BaseType::I64 => Ok(Start::Complete(Default::Int(z))),
+        BaseType::Text | BaseType::Bytes => Err(Fault::BadDefault),
     }
 }
 
-fn scalar_literal(s: Scalar, x: Span) -> Result<Start, Fault>
+fn scalar_literal(s: BaseType, x: Span) -> Result<Start, Fault>
     ensures { (text : List ℕ) → judged_start text result ≡ scalar_literal_of s (text_of_span text x) }
 {
     match s {
-        Scalar::Text | Scalar::Bytes => Ok(Start::Complete(Default::Text(x))),
-        Scalar::Flag | Scalar::I8 | Scalar::I16 | Scalar::I32 | Scalar::I64 => Err(
+        BaseType::Text | BaseType::Bytes => Ok(Start::Complete(Default::Text(x))),
+        BaseType::Flag | BaseType::I8 | BaseType::I16 | BaseType::I32 | BaseType::I64 => Err(
             Fault::BadDefault,
         ),
     }
 }
 
-fn scalar_word(s: Scalar, w: &str) -> Result<Start, Fault>
+fn scalar_word(s: BaseType, w: &str) -> Result<Start, Fault>
     ensures { (text : List ℕ) → judged_start text result ≡ scalar_word_of s w.now }
 {
     match s {
-        Scalar::Flag => {
+        BaseType::Flag => {
             if w == "true" {
                 Ok(Start::Complete(Default::Flag(true)))
             } else if w == "false" {
@@ -167,27 +177,32 @@ fn scalar_word(s: Scalar, w: &str) -> Result<Start, Fault>
                 Err(Fault::BadDefault)
             }
         }
-        Scalar::I8 | Scalar::I16 | Scalar::I32 | Scalar::I64 | Scalar::Text | Scalar::Bytes => Err(
+        BaseType::I8
+        | BaseType::I16
+        | BaseType::I32
+        | BaseType::I64
+        | BaseType::Text
+        | BaseType::Bytes => Err(Fault::BadDefault),
+    }
+}
+
+fn word_default(text: &str, scope: &Scope, ty: Outermost, w: &str) -> Result<Start, Fault>
+    requires { IsIndexed text.now scope.now }
+    ensures { judged_start text.now result ≡ word_default_of (named_in text.now scope.now) (outer_type ty) w.now }
+{
+    match ty {
+        Outermost::Base(s) => scalar_word(s, w),
+        Outermost::Enum(n) => enum_default(text, scope, n, w),
+        Outermost::Struct(_) | Outermost::List | Outermost::Set | Outermost::Map => Err(
             Fault::BadDefault,
         ),
     }
 }
 
-fn word_default(text: &str, scope: &Scope, ty: &Expr, w: &str) -> Result<Start, Fault>
-    requires { IsIndexed text.now scope.now }
-    ensures { judged_start text.now result ≡ word_default_of (nameds_of text.now scope.now.named.items) (type_of ty.now) w.now }
-{
-    match ty {
-        Expr::Scalar(s) => scalar_word(*s, w),
-        Expr::Enum(n) => enum_default(text, scope, *n, w),
-        Expr::Struct(_) | Expr::List(_) | Expr::Set(_) | Expr::Map(_, _) => Err(Fault::BadDefault),
-    }
-}
-
 /// What a token means where a default begins, or its fault.
-fn start_of(text: &str, scope: &Scope, ty: &Expr, token: Token) -> Result<Start, Fault>
+fn start_of(text: &str, scope: &Scope, ty: Outermost, token: Token) -> Result<Start, Fault>
     requires { IsIndexed text.now scope.now }
-    ensures { judged_start text.now result ≡ a_default (nameds_of text.now scope.now.named.items) (type_of ty.now) (tok_of text.now token) }
+    ensures { judged_start text.now result ≡ a_default (named_in text.now scope.now) (outer_type ty) (tok_of text.now token) }
 {
     match token {
         Token::Number(Some(value)) => number_default(ty, Whole { value }),
@@ -237,11 +252,11 @@ fn read_default_end<'a>(
 fn read_start<'a>(
     text: &str,
     scope: &Scope,
-    ty: &Expr,
+    ty: Outermost,
     tokens: &'a [Placed],
 ) -> Result<(Start, &'a [Placed]), ReadError>
     requires { IsIndexed text.now scope.now }
-    ensures { Gives (λ x. (start_view text.now x.0, toks text.now x.1.now)) result (run (token_that (a_default (nameds_of text.now scope.now.named.items) (type_of ty.now))) (toks text.now tokens.now)) }
+    ensures { Gives (λ x. (start_view text.now x.0, toks text.now x.1.now)) result (run (token_that (a_default (named_in text.now scope.now) (outer_type ty))) (toks text.now tokens.now)) }
 {
     let Some((first, rest)) = tokens.split_first() else {
         return Err(none_left());
@@ -255,11 +270,11 @@ fn read_start<'a>(
 fn read_default<'a>(
     text: &str,
     scope: &Scope,
-    ty: &Expr,
+    ty: Outermost,
     tokens: &'a [Placed],
 ) -> Result<(Default, &'a [Placed]), ReadError>
     requires { IsIndexed text.now scope.now }
-    ensures { Gives (λ x. (default_of text.now x.0, toks text.now x.1.now)) result (run (default_that (nameds_of text.now scope.now.named.items) (type_of ty.now)) (toks text.now tokens.now)) }
+    ensures { Gives (λ x. (default_of text.now x.0, toks text.now x.1.now)) result (run (default_that (named_in text.now scope.now) (outer_type ty)) (toks text.now tokens.now)) }
 {
     let Some((first, rest)) = tokens.split_first() else {
         return Err(none_left());
@@ -277,6 +292,44 @@ fn read_default<'a>(
     }
 }
 
+fn outer_node(node: TypeNode) -> Outermost
+    ensures { (ts : List Ty) → outer_type result ≡ outer (node_type ts node) }
+{
+    match node {
+        TypeNode::Base(s) => Outermost::Base(s),
+        TypeNode::Enum(n) => Outermost::Enum(n),
+        TypeNode::Struct(n) => Outermost::Struct(n),
+        TypeNode::List(_) => Outermost::List,
+        TypeNode::Set(_) => Outermost::Set,
+        TypeNode::Map(_, _) => Outermost::Map,
+    }
+}
+
+/// What a type is outermost.
+fn outermost(scope: &Scope, ty: &WrittenType) -> Outermost
+    ensures { (text : List ℕ) → outer_type result ≡ outer (written_type (entries_in text scope.now) ty.now) }
+{
+    match ty.around.last() {
+        None => outer_node(scope.type_of(ty.word)),
+        Some(Container::List) => Outermost::List,
+        Some(Container::Set) => Outermost::Set,
+        Some(Container::Map(_)) => Outermost::Map,
+    }
+}
+
+/// The default of a field of this type.
+fn read_typed_default<'a>(
+    text: &str,
+    scope: &Scope,
+    ty: &WrittenType,
+    tokens: &'a [Placed],
+) -> Result<(Default, &'a [Placed]), ReadError>
+    requires { IsIndexed text.now scope.now }
+    ensures { Gives (λ x. (default_of text.now x.0, toks text.now x.1.now)) result (run (default_that (named_in text.now scope.now) (written_type (entries_in text.now scope.now) ty.now)) (toks text.now tokens.now)) }
+{
+    read_default(text, scope, outermost(scope, ty), tokens)
+}
+
 /// A field from the mark after its number to its name.
 #[tactic(auto, unfolding(idl_profile::specs::Text::typed))]
 fn read_typed<'a>(
@@ -287,12 +340,12 @@ fn read_typed<'a>(
     tokens: &'a [Placed],
 ) -> Result<(Typed, &'a [Placed]), ReadError>
     requires indexed { IsIndexed text.now scope.now }
-    requires found { IsFound text.now found.now }
-    ensures { Gives (λ x. (typed_of text.now x.0, toks text.now x.1.now)) result (run (typed_that (entries_of text.now scope.now.entries.items) (fields_of text.now found.now.fields.items)) (toks text.now tokens.now)) }
+    requires found { IsFound text.now (entries_in text.now scope.now) found.now }
+    ensures { Gives (λ x. (typed_of text.now (entries_in text.now scope.now) x.0, toks text.now x.1.now)) result (run (typed_that (entries_in text.now scope.now) (written_fields text.now (entries_in text.now scope.now) found.now.fields.items)) (toks text.now tokens.now)) }
 {
     let rest = read_mark(b':', tokens)?;
     let (need, rest) = read_need(text, rest)?;
-    let (ty, rest) = read_type(alloc, text, scope, 32, false, rest)?;
+    let (ty, rest) = read_type(alloc, text, scope, 32, rest)?;
     let (name, rest) = read_new_name(text, &found.names, rest)?;
     Ok((Typed { need, ty, name }, rest))
 }
@@ -306,17 +359,17 @@ fn read_field<'a>(
     found: &Found,
     id: Id,
     tokens: &'a [Placed],
-) -> Result<(Field, &'a [Placed]), ReadError>
+) -> Result<(WrittenField, &'a [Placed]), ReadError>
     requires indexed { IsIndexed text.now scope.now }
-    requires found { IsFound text.now found.now }
-    ensures { Gives (λ x. (field_of text.now x.0, toks text.now x.1.now)) result (run (field_that (scope_of text.now scope.now) (fields_of text.now found.now.fields.items) id.id) (toks text.now tokens.now)) }
+    requires found { IsFound text.now (entries_in text.now scope.now) found.now }
+    ensures { Gives (λ x. (written_field text.now (entries_in text.now scope.now) x.0, toks text.now x.1.now)) result (run (field_that (scope_of text.now scope.now) (written_fields text.now (entries_in text.now scope.now) found.now.fields.items) id.id) (toks text.now tokens.now)) }
 {
     let (typed, rest) = read_typed(alloc, text, scope, found, tokens)?;
-    let (default, rest) = read_default(text, scope, &typed.ty, rest)?;
+    let (default, rest) = read_typed_default(text, scope, &typed.ty, rest)?;
     let rest = read_end(text, rest)?;
     let Typed { need, ty, name } = typed;
     Ok((
-        Field {
+        WrittenField {
             id,
             need,
             ty,
@@ -333,9 +386,9 @@ pub fn read_fields<'a>(
     text: &str,
     scope: &Scope,
     tokens: &'a [Placed],
-) -> Result<(Vec<Field>, &'a [Placed]), ReadError>
+) -> Result<(Vec<WrittenField>, &'a [Placed]), ReadError>
     requires { IsIndexed text.now scope.now }
-    ensures { Gives (λ x. (fields_of text.now x.0.items, toks text.now x.1.now)) result (run (fields_that (scope_of text.now scope.now) []) (toks text.now tokens.now)) }
+    ensures { Gives (λ x. (written_fields text.now (entries_in text.now scope.now) x.0.items, toks text.now x.1.now)) result (run (fields_that (scope_of text.now scope.now) []) (toks text.now tokens.now)) }
 {
     let mut found = Found::new(alloc);
     let mut rest = tokens;

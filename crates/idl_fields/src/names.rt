@@ -2,16 +2,19 @@
 
 ghost use Rattle.std.specs.Prelude.{◌≡◌, ℕ, List};
 ghost use Rattle.name_index.specs.Names.{Indexes};
-ghost use Rattle.idl_tokens.specs.Spans.{toks, tok_of, text_at as text_of_span};
+ghost use Rattle.base_lists.specs.Spans.{text_at as text_of_span};
+ghost use Rattle.idl_tokens.specs.Spans.{toks, tok_of};
 ghost use Rattle.idl_grammar.specs.Grammar.{token as token_that};
-ghost use Rattle.idl_grammar.specs.Run.{run, Gives};
+ghost use Rattle.exact_reading.specs.Reading.{Gives};
+ghost use Rattle.idl_grammar.specs.Run.{run};
 ghost use Rattle.idl_profile.specs.Judged.{new_name as new_name_of};
 ghost use Rattle.idl_fields.specs.View.{judged_name};
 
 use crate::reading::{none_left, wrong};
 use crate::words::is_name;
+use base_lists::{Span, text_at};
 use idl_grammar::{Fault, ReadError};
-use idl_tokens::{Placed, Span, Token, text_at};
+use idl_tokens::{Placed, Token};
 use name_index::NameIndex;
 
 /// A name that is none of the names that stood earlier, or the token's fault.

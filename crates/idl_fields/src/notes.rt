@@ -4,14 +4,16 @@ ghost use Rattle.std.specs.Prelude.{◌≡◌};
 ghost use Rattle.idl_tokens.specs.Tokens.{Tok};
 ghost use Rattle.idl_tokens.specs.Spans.{tok_of, spot_of, toks};
 ghost use Rattle.idl_grammar.specs.Grammar.{token as token_that, loop as loop_of};
-ghost use Rattle.idl_grammar.specs.Run.{run, Gives, outcome};
+ghost use Rattle.exact_reading.specs.Reading.{Gives};
+ghost use Rattle.idl_grammar.specs.Run.{run, outcome};
 ghost use Rattle.idl_profile.specs.Judged.{a_value, a_note, yes};
 ghost use Rattle.idl_profile.specs.Text.{note, ann, ended};
 
 use crate::reading::{is_mark, none_left, read_mark, read_sep, wrong};
 use crate::words::{has_backslash, is_refused_note};
+use base_lists::text_at;
 use idl_grammar::{Fault, ReadError};
-use idl_tokens::{Placed, Token, text_at};
+use idl_tokens::{Placed, Token};
 
 fn read_value<'a>(text: &str, tokens: &'a [Placed]) -> Result<&'a [Placed], ReadError>
     ensures { Gives (λ x. (tt, toks text.now x.now)) result (run (token_that a_value) (toks text.now tokens.now)) }

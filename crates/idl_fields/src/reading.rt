@@ -2,19 +2,23 @@
 
 ghost use Rattle.std.specs.Prelude.{◌≡◌, ℕ, List};
 ghost use Rattle.idl_tokens.specs.Spans.{tok_of, toks};
-ghost use Rattle.idl_grammar.specs.Grammar.{token as token_that, stop as stop_of};
-ghost use Rattle.idl_grammar.specs.Run.{run, Gives};
-ghost use Rattle.idl_profile.specs.Judged.{is_mark as is_mark_of, is_word as is_word_of, is_sep as is_sep_of, a_mark, taken, one_of as one_of_lem};
+ghost use Rattle.exact_reading.specs.declared.stop.ReadError.TheVariants as errors;
+ghost use Rattle.idl_grammar.specs.Grammar.{token as token_that, line_fault as stop_of};
+ghost use Rattle.exact_reading.specs.Reading.{Gives};
+ghost use Rattle.idl_grammar.specs.Run.{run};
+ghost use Rattle.name_index.specs.Names.{is_among as is_among_of};
+ghost use Rattle.idl_profile.specs.Judged.{is_mark as is_mark_of, is_word as is_word_of, is_sep as is_sep_of, a_mark, taken};
 ghost use Rattle.idl_profile.specs.Text.{sep};
 
-use idl_grammar::{Fault, ReadError, Stop};
-use idl_tokens::{Placed, Token, text_at};
+use base_lists::text_at;
+use idl_grammar::{Fault, LineFault, ReadError};
+use idl_tokens::{Placed, Token};
 
 /// Where tokens are wanted after the last.
 pub fn none_left() -> ReadError
-    ensures { result ≡ ReadError.Stop (stop_of Fault.Syntax 0) }
+    ensures { result ≡ errors.Stop (stop_of Fault.Syntax 0) }
 {
-    ReadError::Stop(Stop {
+    ReadError::Stop(LineFault {
         fault: Fault::Syntax,
         line: 0,
     })
@@ -22,9 +26,9 @@ pub fn none_left() -> ReadError
 
 /// A fault of this token.
 pub fn wrong(fault: Fault, placed: &Placed) -> ReadError
-    ensures { result ≡ ReadError.Stop (stop_of fault placed.now.line) }
+    ensures { result ≡ errors.Stop (stop_of fault placed.now.line) }
 {
-    ReadError::Stop(Stop {
+    ReadError::Stop(LineFault {
         fault,
         line: placed.line,
     })

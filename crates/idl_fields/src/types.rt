@@ -1,69 +1,44 @@
 //! Types.
 
-ghost use Rattle.std.specs.Prelude.{◌≡◌, ℕ, List, IfOk, nat_lt, option_map};
+ghost use Rattle.std.specs.Prelude.{◌≡◌, ℕ, List, Bool, true, false, IfOk, option_map};
 ghost use Rattle.idl_tokens.specs.Spans.{toks, tok_of, spot_of};
 ghost use Rattle.idl_grammar.specs.Grammar.{token as token_that};
-ghost use Rattle.idl_grammar.specs.Run.{run, Gives, judged};
-ghost use Rattle.idl_profile.specs.Meaning.{find as find_in};
-ghost use Rattle.idl_profile.specs.Judged.{an_open, a_type, is_key as is_key_of, a_named_type, a_word_type, container_of as container_for};
+ghost use Rattle.exact_reading.specs.Reading.{Gives};
+ghost use Rattle.idl_grammar.specs.Run.{run, judged};
+ghost use Rattle.idl_profile.specs.Meaning.{Ty, Entry as Meant, find as find_in};
+ghost use Rattle.idl_profile.specs.Judged.{plain, an_open, a_type, is_key as is_key_of, a_named_type, a_word_type, container_of as container_for};
 ghost use Rattle.idl_profile.specs.Text.{type as type_that, after_head, inner};
-ghost use Rattle.idl_fields.specs.View.{type_of, head_of, entries_of, judged_head};
+ghost use Rattle.idl_fields.specs.View.{contained, word_type, written_type, opening_of, head_of, entries_in, judged_head, judged_word};
+ghost use Rattle.idl_fields.specs.Nodes.{node_type};
 ghost use Rattle.idl_fields.specs.Indexed.{IsIndexed};
 
-use crate::draft::{Expr, Head};
+use crate::draft::{Container, Head, Opening, TypeNode, TypeWord, WrittenType};
 use crate::notes::read_ann;
 use crate::reading::{is_mark, is_word, none_left, read_mark, wrong};
 use crate::scope::Scope;
 use crate::words::{is_name, scalar_of};
+use base_lists::{Span, text_at};
 use idl_grammar::{Fault, ReadError};
-use idl_tokens::{Placed, Span, Token, text_at};
+use idl_tokens::{Placed, Token};
 use std::alloc::{AllocError, Global};
 
-/// A copy of a type.
-fn copy_of(alloc: Global, ty: &Expr) -> Result<Expr, AllocError>
-    ensures { IfOk result (λ t. type_of t ≡ type_of ty.now) }
+fn is_key(node: TypeNode) -> bool
+    ensures { (ts : List Ty) → result ≡ is_key_of (node_type ts node) }
 {
-    match ty {
-        Expr::Scalar(s) => Ok(Expr::Scalar(*s)),
-        Expr::Enum(n) => Ok(Expr::Enum(*n)),
-        Expr::Struct(n) => Ok(Expr::Struct(*n)),
-        Expr::List(x) => {
-            let x = copy_of(alloc, x)?;
-            Ok(Expr::List(Box::new(alloc, x)?))
-        }
-        Expr::Set(x) => {
-            let x = copy_of(alloc, x)?;
-            Ok(Expr::Set(Box::new(alloc, x)?))
-        }
-        Expr::Map(x, y) => {
-            let x = copy_of(alloc, x)?;
-            let y = copy_of(alloc, y)?;
-            let x = Box::new(alloc, x)?;
-            Ok(Expr::Map(x, Box::new(alloc, y)?))
-        }
+    match node {
+        TypeNode::Base(_) | TypeNode::Enum(_) => true,
+        TypeNode::Struct(_) | TypeNode::List(_) | TypeNode::Set(_) | TypeNode::Map(_, _) => false,
     }
 }
 
-fn is_key(ty: &Expr) -> bool
-    ensures { result ≡ is_key_of (type_of ty.now) }
+/// The name that is this word.
+fn find(scope: &Scope, w: &str) -> Option<TypeWord>
+    ensures { (text : List ℕ) → IsIndexed text scope.now → option_map (word_type (entries_in text scope.now)) result ≡ find_in w.now (entries_in text scope.now) }
 {
-    match ty {
-        Expr::Scalar(_) | Expr::Enum(_) => true,
-        Expr::Struct(_) | Expr::List(_) | Expr::Set(_) | Expr::Map(_, _) => false,
+    match scope.names.place_of(w) {
+        Some(place) => Some(TypeWord::Name(place)),
+        None => None,
     }
-}
-
-/// The type of a name.
-fn find<'a>(scope: &'a Scope, w: &str) -> Option<&'a Expr>
-    ensures { (text : List ℕ) → IsIndexed text scope.now → option_map (λ t. type_of t.now) result ≡ find_in w.now (entries_of text scope.now.entries.items) }
-{
-    let Some(place) = scope.names.place_of(w) else {
-        return None;
-    };
-    let Some(entry) = scope.entries.get(place as usize) else {
-        return None;
-    };
-    Some(&entry.ty)
 }
 
 fn read_open<'a>(text: &str, tokens: &'a [Placed]) -> Result<&'a [Placed], ReadError>
@@ -82,88 +57,97 @@ fn read_open<'a>(text: &str, tokens: &'a [Placed]) -> Result<&'a [Placed], ReadE
 }
 
 #[tactic(auto, unfolding(idl_profile::specs::Judged::container_of))]
-fn container_of(w: &str) -> Option<Head>
-    ensures { option_map head_of result ≡ container_for w.now }
+fn container_of(w: &str) -> Option<Opening>
+    ensures { option_map opening_of result ≡ container_for w.now }
 {
     if w == "list" {
-        Some(Head::List)
+        Some(Opening::List)
     } else if w == "set" {
-        Some(Head::Set)
+        Some(Opening::Set)
     } else if w == "map" {
-        Some(Head::Map)
+        Some(Opening::Map)
     } else {
         None
     }
 }
 
 /// What a name means where a type stands, or its fault.
-fn named_type(
-    alloc: Global,
-    text: &str,
-    scope: &Scope,
-    key: bool,
-    w: &str,
-) -> Result<Result<Head, Fault>, AllocError>
+fn named_type(text: &str, scope: &Scope, key: bool, w: &str) -> Result<TypeWord, Fault>
     requires { IsIndexed text.now scope.now }
-    ensures { IfOk result (λ r. judged_head r ≡ a_named_type (entries_of text.now scope.now.entries.items) key w.now) }
+    ensures { judged_word (entries_in text.now scope.now) result ≡ a_named_type (entries_in text.now scope.now) key w.now }
 {
     if !is_name(w) {
-        return Ok(Err(Fault::Syntax));
+        return Err(Fault::Syntax);
     }
     match find(scope, w) {
-        None => Ok(Err(Fault::UnknownType)),
-        Some(ty) => {
-            if key && !is_key(ty) {
-                Ok(Err(Fault::KeyType))
+        None => Err(Fault::UnknownType),
+        Some(word) => {
+            if key && !is_key(scope.type_of(word)) {
+                Err(Fault::KeyType)
             } else {
-                Ok(Ok(Head::Plain(copy_of(alloc, ty)?)))
+                Ok(word)
             }
         }
     }
 }
 
-/// What a word means where a type stands, or its fault.
-fn word_type(
-    alloc: Global,
-    text: &str,
-    scope: &Scope,
-    key: bool,
-    room: bool,
-    w: &str,
-) -> Result<Result<Head, Fault>, AllocError>
+/// What a word means where the type of a key or an element stands, or its fault.
+fn key_word(text: &str, scope: &Scope, w: &str) -> Result<TypeWord, Fault>
     requires { IsIndexed text.now scope.now }
-    ensures { IfOk result (λ r. judged_head r ≡ a_word_type (entries_of text.now scope.now.entries.items) key room w.now) }
+    ensures { (room : Bool) → judged_word (entries_in text.now scope.now) result ≡ a_word_type (entries_in text.now scope.now) true room w.now }
 {
     if w == "float" || w == "double" {
-        return Ok(Err(Fault::Unsupported));
+        return Err(Fault::Unsupported);
     }
     if let Some(s) = scalar_of(w) {
-        return Ok(Ok(Head::Plain(Expr::Scalar(s))));
+        return Ok(TypeWord::Base(s));
     }
     match container_of(w) {
-        None => named_type(alloc, text, scope, key, w),
-        Some(head) => {
-            if key {
-                Ok(Err(Fault::KeyType))
-            } else if room {
-                Ok(Ok(head))
+        None => named_type(text, scope, true, w),
+        Some(_) => Err(Fault::KeyType),
+    }
+}
+
+fn plain_head(judged: Result<TypeWord, Fault>) -> Result<Head, Fault>
+    ensures { (es : List Meant) → judged_head es result ≡ judged_word es judged }
+{
+    match judged {
+        Ok(word) => Ok(Head::Plain(word)),
+        Err(fault) => Err(fault),
+    }
+}
+
+/// What a word means where any other type stands, or its fault.
+fn word_type(text: &str, scope: &Scope, room: bool, w: &str) -> Result<Head, Fault>
+    requires { IsIndexed text.now scope.now }
+    ensures { judged_head (entries_in text.now scope.now) result ≡ a_word_type (entries_in text.now scope.now) false room w.now }
+{
+    if w == "float" || w == "double" {
+        return Err(Fault::Unsupported);
+    }
+    if let Some(s) = scalar_of(w) {
+        return Ok(Head::Plain(TypeWord::Base(s)));
+    }
+    match container_of(w) {
+        None => plain_head(named_type(text, scope, false, w)),
+        Some(opening) => {
+            if room {
+                Ok(Head::Open(opening))
             } else {
-                Ok(Err(Fault::TooDeep))
+                Err(Fault::TooDeep)
             }
         }
     }
 }
 
 fn read_head<'a>(
-    alloc: Global,
     text: &str,
     scope: &Scope,
-    key: bool,
     room: bool,
     tokens: &'a [Placed],
 ) -> Result<(Head, &'a [Placed]), ReadError>
     requires { IsIndexed text.now scope.now }
-    ensures { Gives (λ x. (head_of x.0, toks text.now x.1.now)) result (run (token_that (a_type (entries_of text.now scope.now.entries.items) key room)) (toks text.now tokens.now)) }
+    ensures { Gives (λ x. (head_of (entries_in text.now scope.now) x.0, toks text.now x.1.now)) result (run (token_that (a_type (entries_in text.now scope.now) false room)) (toks text.now tokens.now)) }
 {
     let Some((first, rest)) = tokens.split_first() else {
         return Err(none_left());
@@ -171,9 +155,82 @@ fn read_head<'a>(
     let Token::Word(w) = first.token else {
         return Err(wrong(Fault::Syntax, first));
     };
-    match word_type(alloc, text, scope, key, room, text_at(text, w))? {
+    match word_type(text, scope, room, text_at(text, w)) {
         Ok(head) => Ok((head, rest)),
         Err(fault) => Err(wrong(fault, first)),
+    }
+}
+
+fn read_key_word<'a>(
+    text: &str,
+    scope: &Scope,
+    tokens: &'a [Placed],
+) -> Result<(TypeWord, &'a [Placed]), ReadError>
+    requires { IsIndexed text.now scope.now }
+    ensures { (room : Bool) → Gives (λ x. (plain (word_type (entries_in text.now scope.now) x.0), toks text.now x.1.now)) result (run (token_that (a_type (entries_in text.now scope.now) true room)) (toks text.now tokens.now)) }
+{
+    let Some((first, rest)) = tokens.split_first() else {
+        return Err(none_left());
+    };
+    let Token::Word(w) = first.token else {
+        return Err(wrong(Fault::Syntax, first));
+    };
+    match key_word(text, scope, text_at(text, w)) {
+        Ok(word) => Ok((word, rest)),
+        Err(fault) => Err(wrong(fault, first)),
+    }
+}
+
+/// The type of a key or an element, with its annotations.
+#[tactic(auto, unfolding(idl_profile::specs::Text::inner))]
+fn read_key_type<'a>(
+    text: &str,
+    scope: &Scope,
+    tokens: &'a [Placed],
+) -> Result<(TypeWord, &'a [Placed]), ReadError>
+    requires { IsIndexed text.now scope.now }
+    ensures { (depth : ℕ) → Gives (λ x. (word_type (entries_in text.now scope.now) x.0, toks text.now x.1.now)) result (run (type_that (entries_in text.now scope.now) depth true) (toks text.now tokens.now)) }
+{
+    let (word, rest) = read_key_word(text, scope, tokens)?;
+    let rest = read_ann(text, rest)?;
+    Ok((word, rest))
+}
+
+/// The type of a key or an element, inside a container.
+#[tactic(auto, unfolding(idl_profile::specs::Text::inner))]
+fn read_key<'a>(
+    text: &str,
+    scope: &Scope,
+    depth: u32,
+    tokens: &'a [Placed],
+) -> Result<(TypeWord, &'a [Placed]), ReadError>
+    requires { IsIndexed text.now scope.now }
+    ensures { Gives (λ x. (word_type (entries_in text.now scope.now) x.0, toks text.now x.1.now)) result (run (inner (entries_in text.now scope.now) depth true) (toks text.now tokens.now)) }
+{
+    if depth > 0 {
+        return read_key_type(text, scope, tokens);
+    }
+    let Some((first, _)) = tokens.split_first() else {
+        return Err(none_left());
+    };
+    Err(wrong(Fault::TooDeep, first))
+}
+
+// The type inside one more container.
+fn inside_of(mut ty: WrittenType, container: Container) -> Result<WrittenType, AllocError>
+    ensures { (es : List Meant) → IfOk result (λ w. written_type es w ≡ contained es (written_type es ty) container) }
+{
+    ty.around.push(container)?;
+    Ok(ty)
+}
+
+// A type that is one word.
+fn written(alloc: Global, word: TypeWord) -> WrittenType
+    ensures { (es : List Meant) → written_type es result ≡ word_type es word }
+{
+    WrittenType {
+        word,
+        around: Vec::new(alloc),
     }
 }
 
@@ -185,13 +242,12 @@ pub fn read_type<'a>(
     text: &str,
     scope: &Scope,
     depth: u32,
-    key: bool,
     tokens: &'a [Placed],
-) -> Result<(Expr, &'a [Placed]), ReadError>
+) -> Result<(WrittenType, &'a [Placed]), ReadError>
     requires { IsIndexed text.now scope.now }
-    ensures { Gives (λ x. (type_of x.0, toks text.now x.1.now)) result (run (type_that (entries_of text.now scope.now.entries.items) depth key) (toks text.now tokens.now)) }
+    ensures { Gives (λ x. (written_type (entries_in text.now scope.now) x.0, toks text.now x.1.now)) result (run (type_that (entries_in text.now scope.now) depth false) (toks text.now tokens.now)) }
 {
-    let (head, rest) = read_head(alloc, text, scope, key, depth > 0, tokens)?;
+    let (head, rest) = read_head(text, scope, depth > 0, tokens)?;
     let (ty, rest) = read_after_head(alloc, text, scope, depth, head, rest)?;
     let rest = read_ann(text, rest)?;
     Ok((ty, rest))
@@ -204,14 +260,13 @@ fn read_inner<'a>(
     text: &str,
     scope: &Scope,
     depth: u32,
-    key: bool,
     tokens: &'a [Placed],
-) -> Result<(Expr, &'a [Placed]), ReadError>
+) -> Result<(WrittenType, &'a [Placed]), ReadError>
     requires { IsIndexed text.now scope.now }
-    ensures { Gives (λ x. (type_of x.0, toks text.now x.1.now)) result (run (inner (entries_of text.now scope.now.entries.items) depth key) (toks text.now tokens.now)) }
+    ensures { Gives (λ x. (written_type (entries_in text.now scope.now) x.0, toks text.now x.1.now)) result (run (inner (entries_in text.now scope.now) depth false) (toks text.now tokens.now)) }
 {
     if depth > 0 {
-        return read_type(alloc, text, scope, depth - 1, key, tokens);
+        return read_type(alloc, text, scope, depth - 1, tokens);
     }
     let Some((first, _)) = tokens.split_first() else {
         return Err(none_left());
@@ -227,32 +282,31 @@ fn read_after_head<'a>(
     depth: u32,
     head: Head,
     tokens: &'a [Placed],
-) -> Result<(Expr, &'a [Placed]), ReadError>
+) -> Result<(WrittenType, &'a [Placed]), ReadError>
     requires { IsIndexed text.now scope.now }
-    ensures { Gives (λ x. (type_of x.0, toks text.now x.1.now)) result (run (after_head (inner (entries_of text.now scope.now.entries.items) depth) (head_of head)) (toks text.now tokens.now)) }
+    ensures { Gives (λ x. (written_type (entries_in text.now scope.now) x.0, toks text.now x.1.now)) result (run (after_head (inner (entries_in text.now scope.now) depth) (head_of (entries_in text.now scope.now) head)) (toks text.now tokens.now)) }
 {
     match head {
-        Head::Plain(ty) => Ok((ty, tokens)),
-        Head::List => {
+        Head::Plain(word) => Ok((written(alloc, word), tokens)),
+        Head::Open(Opening::List) => {
             let rest = read_open(text, tokens)?;
-            let (x, rest) = read_inner(alloc, text, scope, depth, false, rest)?;
+            let (x, rest) = read_inner(alloc, text, scope, depth, rest)?;
             let rest = read_mark(b'>', rest)?;
-            Ok((Expr::List(Box::new(alloc, x)?), rest))
+            Ok((inside_of(x, Container::List)?, rest))
         }
-        Head::Set => {
+        Head::Open(Opening::Set) => {
             let rest = read_open(text, tokens)?;
-            let (x, rest) = read_inner(alloc, text, scope, depth, true, rest)?;
+            let (key, rest) = read_key(text, scope, depth, rest)?;
             let rest = read_mark(b'>', rest)?;
-            Ok((Expr::Set(Box::new(alloc, x)?), rest))
+            Ok((inside_of(written(alloc, key), Container::Set)?, rest))
         }
-        Head::Map => {
+        Head::Open(Opening::Map) => {
             let rest = read_open(text, tokens)?;
-            let (x, rest) = read_inner(alloc, text, scope, depth, true, rest)?;
+            let (key, rest) = read_key(text, scope, depth, rest)?;
             let rest = read_mark(b',', rest)?;
-            let (y, rest) = read_inner(alloc, text, scope, depth, false, rest)?;
+            let (x, rest) = read_inner(alloc, text, scope, depth, rest)?;
             let rest = read_mark(b'>', rest)?;
-            let x = Box::new(alloc, x)?;
-            Ok((Expr::Map(x, Box::new(alloc, y)?), rest))
+            Ok((inside_of(x, Container::Map(key))?, rest))
         }
     }
 }

@@ -4,21 +4,22 @@ ghost use Rattle.std.specs.Prelude.{◌≡◌};
 ghost use Rattle.std.specs.List.{list_any};
 ghost use Rattle.std.specs.Str.{bytes_eq};
 ghost use Rattle.std.specs.Prelude.{◌==◌};
-ghost use Rattle.idl_profile.specs.Judged.{one_of as one_of_lem, is_name as is_name_of, has_backslash as has_backslash_in, refused_notes, keywords, scalar_of as scalar_for};
+ghost use Rattle.name_index.specs.Names.{is_among as is_among_of};
+ghost use Rattle.idl_profile.specs.Judged.{is_name as is_name_of, has_backslash as has_backslash_in, refused_notes, keywords, scalar_of as scalar_for};
 
-use idl_profile::Scalar;
+use idl_profile::BaseType;
 
 /// Whether this is one of the words.
-pub fn one_of(words: &[&str], w: &str) -> bool
+pub fn is_among(words: &[&str], w: &str) -> bool
     ensures { result ≡ list_any (λ x. bytes_eq x.now w.now) words.now }
 {
     words.iter().any(|x| *x == w)
 }
 
 fn is_keyword(w: &str) -> bool
-    ensures { result ≡ one_of_lem keywords w.now }
+    ensures { result ≡ is_among_of keywords w.now }
 {
-    one_of(
+    is_among(
         &[
             "namespace",
             "cpp_include",
@@ -73,34 +74,34 @@ pub fn has_backslash(x: &str) -> bool
 }
 
 pub fn is_refused_note(w: &str) -> bool
-    ensures { result ≡ one_of_lem refused_notes w.now }
+    ensures { result ≡ is_among_of refused_notes w.now }
 {
-    one_of(
+    is_among(
         &["cpp.type", "cpp2.type", "cpp.template", "cpp2.template"],
         w,
     )
 }
 
 #[tactic(auto, unfolding(idl_profile::specs::Judged::scalar_of))]
-pub fn scalar_of(w: &str) -> Option<Scalar>
+pub fn scalar_of(w: &str) -> Option<BaseType>
     ensures { result ≡ scalar_for w.now }
 {
     if w == "bool" {
-        Some(Scalar::Flag)
+        Some(BaseType::Flag)
     } else if w == "byte" {
-        Some(Scalar::I8)
+        Some(BaseType::I8)
     } else if w == "i8" {
-        Some(Scalar::I8)
+        Some(BaseType::I8)
     } else if w == "i16" {
-        Some(Scalar::I16)
+        Some(BaseType::I16)
     } else if w == "i32" {
-        Some(Scalar::I32)
+        Some(BaseType::I32)
     } else if w == "i64" {
-        Some(Scalar::I64)
+        Some(BaseType::I64)
     } else if w == "string" {
-        Some(Scalar::Text)
+        Some(BaseType::Text)
     } else if w == "binary" {
-        Some(Scalar::Bytes)
+        Some(BaseType::Bytes)
     } else {
         None
     }

@@ -1,3 +1,4 @@
 pub mod Answering
 pub mod Rooting
 pub mod Standing
+pub mod HalvingLaws

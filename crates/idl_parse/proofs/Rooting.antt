@@ -4,10 +4,10 @@ use Rattle.std.specs.List.{list_any}
 use Rattle.idl_profile.specs.Types as types
 use Rattle.idl_profile.specs.Types.{TypeTree, scalar, flag, named, last_struct, root_of, kind_of}
 use Rattle.idl_profile.specs.declared.kinds.TypeKind.TheVariants as kinds
-use Rattle.idl_profile.specs.Meaning.{Named}
+use Rattle.idl_profile.specs.Meaning.{Ty, MeantNamed}
 use Rattle.idl_profile.specs.Measures.{at, named_tree, named_of as named_in, trees}
-use Rattle.idl_fields.specs.declared.draft.Named as draft
-use Rattle.idl_fields.specs.declared.draft.Named.TheVariants as n
+use Rattle.idl_fields.specs.declared.draft.DraftNamed as draft
+use Rattle.idl_fields.specs.declared.draft.DraftNamed.TheVariants as n
 use Rattle.idl_fields.specs.View.{named_of, nameds_of}
 use Rattle.idl_parse.specs.Drafts.{is_struct}
 use Rattle.idl_parse.specs.Roots.{last_place}
@@ -39,28 +39,28 @@ Last bound ts last = ((last < length ts) × (at ts last ≡ root_so_far ts)) ⊎
 grow-root : (ts : List TypeTree) (x : types.Named) → root_so_far (ts ++ named x ∷ []) ≡ last_struct (root_so_far ts) (x ∷ [])
 grow-root ts x = ap (last_struct (scalar flag)) (nameds-append ts (named x ∷ [])) ∙ last-append (scalar flag) (nameds ts) (x ∷ [])
 
-next-last : (text : List ℕ) (bound : ℕ) (ts : List TypeTree) (last : ℕ) (x : draft.Named) → length ts < bound → Last bound ts last
-    → Last bound (ts ++ named_tree ts (named_of text x) ∷ []) (if is_struct x then length ts else last)
-next-last text bound ts last (n.Struct w fs) h l =
-    let t = named_tree ts (named_of text (n.Struct w fs)) in
-    inl (omega (arith, length-append ts (t ∷ [])), at_last ts t ∙ sym (grow-root ts (named_in ts (named_of text (n.Struct w fs)))))
-next-last text bound ts last (n.Enum w ms) h (inl p) =
-    let t = named_tree ts (named_of text (n.Enum w ms)) in
-    inl (omega (arith, p.0, length-append ts (t ∷ [])), at_front ts (t ∷ []) last p.0 ∙ p.1 ∙ sym (grow-root ts (named_in ts (named_of text (n.Enum w ms)))))
-next-last text bound ts last (n.Enum w ms) h (inr p) = inr (p.0, grow-root ts (named_in ts (named_of text (n.Enum w ms))) ∙ p.1)
+next-last : (text : List ℕ) (us : List Ty) (bound : ℕ) (ts : List TypeTree) (last : ℕ) (x : draft.DraftNamed) → length ts < bound → Last bound ts last
+    → Last bound (ts ++ named_tree ts (named_of text us x) ∷ []) (if is_struct x then length ts else last)
+next-last text us bound ts last (n.Struct w fs) h l =
+    let t = named_tree ts (named_of text us (n.Struct w fs)) in
+    inl (omega (arith, length-append ts (t ∷ [])), at_last ts t ∙ sym (grow-root ts (named_in ts (named_of text us (n.Struct w fs)))))
+next-last text us bound ts last (n.Enum w ms) h (inl p) =
+    let t = named_tree ts (named_of text us (n.Enum w ms)) in
+    inl (omega (arith, p.0, length-append ts (t ∷ [])), at_front ts (t ∷ []) last p.0 ∙ p.1 ∙ sym (grow-root ts (named_in ts (named_of text us (n.Enum w ms)))))
+next-last text us bound ts last (n.Enum w ms) h (inr p) = inr (p.0, grow-root ts (named_in ts (named_of text us (n.Enum w ms))) ∙ p.1)
 
-root-at : (text : List ℕ) (bound : ℕ) (ts : List TypeTree) (xs : List draft.Named) (last : ℕ) → length ts + length xs ≡ bound → Last bound ts last
-    → at (grown ts (nameds_of text xs)) (last_place (length ts) last xs) ≡ root_so_far (grown ts (nameds_of text xs))
-root-at text bound ts [] last h (inl p) = p.1
-root-at text bound ts [] last h (inr p) = at_none ts last (omega (arith, p.0)) ∙ sym p.1
-root-at text bound ts (x ∷ xs) last h l =
-    let t = named_tree ts (named_of text x) in
+root-at : (text : List ℕ) (us : List Ty) (bound : ℕ) (ts : List TypeTree) (xs : List draft.DraftNamed) (last : ℕ) → length ts + length xs ≡ bound → Last bound ts last
+    → at (grown ts (nameds_of text us xs)) (last_place (length ts) last xs) ≡ root_so_far (grown ts (nameds_of text us xs))
+root-at text us bound ts [] last h (inl p) = p.1
+root-at text us bound ts [] last h (inr p) = at_none ts last (omega (arith, p.0)) ∙ sym p.1
+root-at text us bound ts (x ∷ xs) last h l =
+    let t = named_tree ts (named_of text us x) in
     let k : length (ts ++ t ∷ []) ≡ length ts + 1 = omega (arith, length-append ts (t ∷ [])) in
-    let g = root-at text bound (ts ++ t ∷ []) xs (if is_struct x then length ts else last) (omega (arith, length-append ts (t ∷ []))) (next-last text bound ts last x (omega arith) l) in
+    let g = root-at text us bound (ts ++ t ∷ []) xs (if is_struct x then length ts else last) (omega (arith, length-append ts (t ∷ []))) (next-last text us bound ts last x (omega arith) l) in
     rw k at g
 
-pub root-is : (text : List ℕ) (xs : List draft.Named) → at (trees (nameds_of text xs)) (last_place 0 (length xs) xs) ≡ root_of (nameds (trees (nameds_of text xs)))
-root-is text xs = root-at text (length xs) [] xs (length xs) (omega arith) (inr (omega arith, refl))
+pub root-is : (text : List ℕ) (us : List Ty) (xs : List draft.DraftNamed) → at (trees (nameds_of text us xs)) (last_place 0 (length xs) xs) ≡ root_of (nameds (trees (nameds_of text us xs)))
+root-is text us xs = root-at text us (length xs) [] xs (length xs) (omega arith) (inr (omega arith, refl))
 
 -- where one is a struct, the root is one
 struct-stays : (b : TypeTree) (ns : List types.Named) → kind_of b ≡ kinds.Struct → kind_of (last_struct b ns) ≡ kinds.Struct
@@ -68,27 +68,27 @@ struct-stays b [] e = e
 struct-stays b (types.enum_of w ms ∷ ns) e = struct-stays b ns e
 struct-stays b (types.struct_of w fs ∷ ns) e = struct-stays (named (types.struct_of w fs)) ns refl
 
-kind-grown : (text : List ℕ) (ts : List TypeTree) (xs : List draft.Named) → (kind_of (root_so_far ts) ≡ kinds.Struct) ⊎ (list_any is_struct xs ≡ true) → kind_of (root_so_far (grown ts (nameds_of text xs))) ≡ kinds.Struct
-kind-grown text ts [] (inl e) = e
-kind-grown text ts [] (inr e) = absurd cc
-kind-grown text ts (n.Enum w ms ∷ xs) (inl e) =
-    kind-grown text (ts ++ named_tree ts (named_of text (n.Enum w ms)) ∷ []) xs (inl (ap kind_of (grow-root ts (named_in ts (named_of text (n.Enum w ms)))) ∙ e))
-kind-grown text ts (n.Enum w ms ∷ xs) (inr e) = kind-grown text (ts ++ named_tree ts (named_of text (n.Enum w ms)) ∷ []) xs (inr e)
-kind-grown text ts (n.Struct w fs ∷ xs) s =
-    kind-grown text (ts ++ named_tree ts (named_of text (n.Struct w fs)) ∷ []) xs (inl (ap kind_of (grow-root ts (named_in ts (named_of text (n.Struct w fs))))))
+kind-grown : (text : List ℕ) (us : List Ty) (ts : List TypeTree) (xs : List draft.DraftNamed) → (kind_of (root_so_far ts) ≡ kinds.Struct) ⊎ (list_any is_struct xs ≡ true) → kind_of (root_so_far (grown ts (nameds_of text us xs))) ≡ kinds.Struct
+kind-grown text us ts [] (inl e) = e
+kind-grown text us ts [] (inr e) = absurd cc
+kind-grown text us ts (n.Enum w ms ∷ xs) (inl e) =
+    kind-grown text us (ts ++ named_tree ts (named_of text us (n.Enum w ms)) ∷ []) xs (inl (ap kind_of (grow-root ts (named_in ts (named_of text us (n.Enum w ms)))) ∙ e))
+kind-grown text us ts (n.Enum w ms ∷ xs) (inr e) = kind-grown text us (ts ++ named_tree ts (named_of text us (n.Enum w ms)) ∷ []) xs (inr e)
+kind-grown text us ts (n.Struct w fs ∷ xs) s =
+    kind-grown text us (ts ++ named_tree ts (named_of text us (n.Struct w fs)) ∷ []) xs (inl (ap kind_of (grow-root ts (named_in ts (named_of text us (n.Struct w fs))))))
 
-pub root-kind : (text : List ℕ) (xs : List draft.Named) → list_any is_struct xs ≡ true → kind_of (root_of (nameds (trees (nameds_of text xs)))) ≡ kinds.Struct
-root-kind text xs e = kind-grown text [] xs (inr e)
+pub root-kind : (text : List ℕ) (us : List Ty) (xs : List draft.DraftNamed) → list_any is_struct xs ≡ true → kind_of (root_of (nameds (trees (nameds_of text us xs)))) ≡ kinds.Struct
+root-kind text us xs e = kind-grown text us [] xs (inr e)
 
-pub take-all : (ns : List Named) → take (length ns) ns ≡ ns
+pub take-all : (ns : List MeantNamed) → take (length ns) ns ≡ ns
 take-all [] = refl
-take-all (x ∷ ns) = ap (λ (z : List Named). x ∷ z) (take-all ns)
+take-all (x ∷ ns) = ap (λ (z : List MeantNamed). x ∷ z) (take-all ns)
 
-pub nameds-length : (text : List ℕ) (xs : List draft.Named) → length (nameds_of text xs) ≡ length xs
-nameds-length text [] = refl
-nameds-length text (x ∷ xs) = ap suc (nameds-length text xs)
+pub nameds-length : (text : List ℕ) (us : List Ty) (xs : List draft.DraftNamed) → length (nameds_of text us xs) ≡ length xs
+nameds-length text us [] = refl
+nameds-length text us (x ∷ xs) = ap suc (nameds-length text us xs)
 
-pub root-told : (text : List ℕ) (xs : List draft.Named) (k : ℕ) (p : ℕ) → k ≡ length xs → p ≡ last_place 0 (length xs) xs → at (trees (take k (nameds_of text xs))) p ≡ root_of (nameds (trees (nameds_of text xs)))
-root-told text xs k p e f =
-    let t : take k (nameds_of text xs) ≡ nameds_of text xs = ap (λ (z : ℕ). take z (nameds_of text xs)) (e ∙ sym (nameds-length text xs)) ∙ take-all (nameds_of text xs) in
-    rw (t, f) (root-is text xs)
+pub root-named : (text : List ℕ) (us : List Ty) (xs : List draft.DraftNamed) (k : ℕ) (p : ℕ) → k ≡ length xs → p ≡ last_place 0 (length xs) xs → at (trees (take k (nameds_of text us xs))) p ≡ root_of (nameds (trees (nameds_of text us xs)))
+root-named text us xs k p e f =
+    let t : take k (nameds_of text us xs) ≡ nameds_of text us xs = ap (λ (z : ℕ). take z (nameds_of text us xs)) (e ∙ sym (nameds-length text us xs)) ∙ take-all (nameds_of text us xs) in
+    rw (t, f) (root-is text us xs)

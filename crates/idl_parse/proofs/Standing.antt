@@ -1,23 +1,23 @@
 -- What stands at a number among the first enums and structs.
-use Rattle.std.proofs.Common.{◌≡◌, ℕ, zero, suc, ◌+◌, ◌<◌, ◌≤◌, List, [], ◌∷◌, ◌++◌, length, take, get_or, Bool, true, false, ◌&&◌, Some, None, refl, sym, ap, ◌∙◌, arith, length-append}
+use Rattle.std.proofs.Common.{◌≡◌, ℕ, zero, suc, ◌+◌, ◌<◌, ◌≤◌, List, [], ◌∷◌, ◌++◌, length, take, get_or, Bool, true, false, ◌&&◌, Some, None, ◌⊎◌, inl, inr, refl, sym, ap, subst, ◌∙◌, arith, length-append}
 use Rattle.std.specs.Prelude.{slice_get, option_map, string_bytes}
 use Rattle.std.specs.List.{fold}
 use Rattle.idl_profile.specs.Types as types
 use Rattle.idl_profile.specs.Types.{TypeTree, scalar, flag, named, field_list}
-use Rattle.idl_profile.specs.Meaning.{Named}
-use Rattle.idl_fields.specs.declared.draft.Named as draft
-use Rattle.idl_fields.specs.View.{named_of, nameds_of, type_of, default_of}
-use Rattle.idl_tokens.specs.Spans.{text_at}
+use Rattle.idl_profile.specs.Meaning.{Ty, MeantNamed}
+use Rattle.idl_fields.specs.declared.draft.DraftNamed as draft
+use Rattle.idl_fields.specs.declared.draft.TypeNode.{TypeNode}
+use Rattle.idl_fields.specs.declared.draft.TypeNode.TheVariants as v
+use Rattle.idl_fields.specs.View.{types_in, named_of, nameds_of}
 use Rattle.idl_parse.specs.declared.definition.Definition.{Definition}
-use Rattle.idl_parse.specs.Told.{visible, Stands, told_at, element_of, key_of, value_of, fields_in, field_in}
-use Rattle.idl_parse.specs.declared.definition.Place.{Place}
-use Rattle.idl_parse.specs.declared.definition.Place.TheVariants as p
-use Rattle.idl_fields.specs.declared.draft.Field as drafted
+use Rattle.idl_parse.specs.Parsed.{meant_of}
+use Rattle.idl_parse.specs.Refs.{visible, Stands, node_tree, element_of, key_of, value_of, fields_in, field_in}
+use Rattle.idl_fields.specs.declared.draft.DraftField as drafted
 use Rattle.idl_fields.specs.View.{fields_of}
 use Rattle.std.specs.List.{list_all}
-use Rattle.idl_profile.specs.Measures.{at, named_tree, named_of as named_in, trees, fields, tree}
+use Rattle.idl_profile.specs.Measures.{at, named_tree, named_of as named_in, trees, fields}
 
-abbrev pub grown : List TypeTree → List Named → List TypeTree
+abbrev pub grown : List TypeTree → List MeantNamed → List TypeTree
 grown ts ns = fold (λ us n. us ++ named_tree us n ∷ []) ts ns
 
 pub at_front : (ts us : List TypeTree) (i : ℕ) → i < length ts → at (ts ++ us) i ≡ at ts i
@@ -34,15 +34,15 @@ at_none [] j h = refl
 at_none (t ∷ ts) zero h = absurd (omega arith)
 at_none (t ∷ ts) (suc j) h = at_none ts j (omega arith)
 
-pub kept : (ts : List TypeTree) (ns : List Named) (i : ℕ) → i < length ts → at (grown ts ns) i ≡ at ts i
+pub kept : (ts : List TypeTree) (ns : List MeantNamed) (i : ℕ) → i < length ts → at (grown ts ns) i ≡ at ts i
 kept ts [] i h = refl
 kept ts (n ∷ ns) i h = kept (ts ++ named_tree ts n ∷ []) ns i (omega (arith, length-append ts (named_tree ts n ∷ []))) ∙ at_front ts (named_tree ts n ∷ []) i h
 
-pub all : (ts : List TypeTree) (ns : List Named) → length (grown ts ns) ≡ length ts + length ns
+pub all : (ts : List TypeTree) (ns : List MeantNamed) → length (grown ts ns) ≡ length ts + length ns
 all ts [] = omega arith
 all ts (n ∷ ns) = omega (arith, all (ts ++ named_tree ts n ∷ []) ns, length-append ts (named_tree ts n ∷ []))
 
-at_grown : (ts : List TypeTree) (ns : List Named) (j : ℕ) (n : Named) → slice_get ns j ≡ Some n → at (grown ts ns) (length ts + j) ≡ named_tree (grown ts (take j ns)) n
+at_grown : (ts : List TypeTree) (ns : List MeantNamed) (j : ℕ) (n : MeantNamed) → slice_get ns j ≡ Some n → at (grown ts ns) (length ts + j) ≡ named_tree (grown ts (take j ns)) n
 at_grown ts [] j n e = absurd cc
 at_grown ts (m ∷ ns) zero n e =
     let k : m ≡ n = cc in
@@ -52,49 +52,49 @@ at_grown ts (m ∷ ns) (suc j) n e =
     let z : length ts + suc j ≡ length (ts ++ named_tree ts m ∷ []) + j = omega (arith, length-append ts (named_tree ts m ∷ [])) in
     rw z (at_grown (ts ++ named_tree ts m ∷ []) ns j n e)
 
-take_take : (ns : List Named) (j k : ℕ) → j < k → take j (take k ns) ≡ take j ns
+take_take : (ns : List MeantNamed) (j k : ℕ) → j < k → take j (take k ns) ≡ take j ns
 take_take [] zero zero h = refl
 take_take [] zero (suc k) h = refl
 take_take [] (suc j) zero h = refl
 take_take [] (suc j) (suc k) h = refl
 take_take (n ∷ ns) j zero h = absurd (omega arith)
 take_take (n ∷ ns) zero (suc k) h = refl
-take_take (n ∷ ns) (suc j) (suc k) h = ap (λ (z : List Named). n ∷ z) (take_take ns j k (omega arith))
+take_take (n ∷ ns) (suc j) (suc k) h = ap (λ (z : List MeantNamed). n ∷ z) (take_take ns j k (omega arith))
 
-get_take : (ns : List Named) (j k : ℕ) → j < k → slice_get (take k ns) j ≡ slice_get ns j
+get_take : (ns : List MeantNamed) (j k : ℕ) → j < k → slice_get (take k ns) j ≡ slice_get ns j
 get_take [] j zero h = refl
 get_take [] j (suc k) h = refl
 get_take (n ∷ ns) j zero h = absurd (omega arith)
 get_take (n ∷ ns) zero (suc k) h = refl
 get_take (n ∷ ns) (suc j) (suc k) h = get_take ns j k (omega arith)
 
-get_none : (ns : List Named) (j : ℕ) → slice_get ns j ≡ None → length ns ≤ j
+get_none : (ns : List MeantNamed) (j : ℕ) → slice_get ns j ≡ None → length ns ≤ j
 get_none [] j e = omega arith
 get_none (n ∷ ns) zero e = absurd cc
 get_none (n ∷ ns) (suc j) e = omega (arith, get_none ns j e)
 
-take_short : (ns : List Named) (k : ℕ) → length (take k ns) ≤ k
+take_short : (ns : List MeantNamed) (k : ℕ) → length (take k ns) ≤ k
 take_short [] zero = omega arith
 take_short [] (suc k) = omega arith
 take_short (n ∷ ns) zero = omega arith
 take_short (n ∷ ns) (suc k) = omega (arith, take_short ns k)
 
-pub stands-some : (ns : List Named) (k j : ℕ) (n : Named) → j < k → slice_get ns j ≡ Some n → at (trees (take k ns)) j ≡ named_tree (trees (take j ns)) n
+pub stands-some : (ns : List MeantNamed) (k j : ℕ) (n : MeantNamed) → j < k → slice_get ns j ≡ Some n → at (trees (take k ns)) j ≡ named_tree (trees (take j ns)) n
 stands-some ns k j n h e =
     let z : 0 + j ≡ j = omega arith in
     let g = rw z at (at_grown [] (take k ns) j n (get_take ns j k h ∙ e)) in
-    g ∙ ap (λ (z : List Named). named_tree (trees z) n) (take_take ns j k h)
+    g ∙ ap (λ (z : List MeantNamed). named_tree (trees z) n) (take_take ns j k h)
 
-pub stands-beyond : (ns : List Named) (k j : ℕ) → k ≤ j → at (trees (take k ns)) j ≡ scalar flag
+pub stands-beyond : (ns : List MeantNamed) (k j : ℕ) → k ≤ j → at (trees (take k ns)) j ≡ scalar flag
 stands-beyond ns k j h = at_none (trees (take k ns)) j (omega (arith, all [] (take k ns), take_short ns k))
 
-pub stands-none : (ns : List Named) (k j : ℕ) → j < k → slice_get ns j ≡ None → at (trees (take k ns)) j ≡ scalar flag
+pub stands-none : (ns : List MeantNamed) (k j : ℕ) → j < k → slice_get ns j ≡ None → at (trees (take k ns)) j ≡ scalar flag
 stands-none ns k j h e = at_none (trees (take k ns)) j (omega (arith, all [] (take k ns), get_none (take k ns) j (get_take ns j k h ∙ e)))
 
-get_map : (text : List ℕ) (xs : List draft.Named) (j : ℕ) → slice_get (nameds_of text xs) j ≡ option_map (named_of text) (slice_get xs j)
-get_map text [] j = refl
-get_map text (x ∷ xs) zero = refl
-get_map text (x ∷ xs) (suc j) = get_map text xs j
+get_map : (text : List ℕ) (ts : List Ty) (xs : List draft.DraftNamed) (j : ℕ) → slice_get (nameds_of text ts xs) j ≡ option_map (named_of text ts) (slice_get xs j)
+get_map text ts [] j = refl
+get_map text ts (x ∷ xs) zero = refl
+get_map text ts (x ∷ xs) (suc j) = get_map text ts xs j
 
 got : {A : Type 0} (xs : List A) (j : ℕ) (x : A) → j < length xs → x ≡ get_or xs j x → slice_get xs j ≡ Some x
 got [] j x h e = absurd (omega arith)
@@ -106,18 +106,18 @@ got_none [] j h = refl
 got_none (y ∷ xs) zero h = absurd (omega arith)
 got_none (y ∷ xs) (suc j) h = got_none xs j (omega arith)
 
-pub named-some : (d : Definition) (k j : ℕ) (xs : List draft.Named) (x : draft.Named) → xs ≡ d.named.items → j < k → j < length xs → x ≡ get_or xs j x → Stands d k j (Some x)
+pub named-some : (d : Definition) (k j : ℕ) (xs : List draft.DraftNamed) (x : draft.DraftNamed) → xs ≡ d.named.items → j < k → j < length xs → x ≡ get_or xs j x → Stands d k j (Some x)
 named-some d k j xs x is h lt e =
-    stands-some (nameds_of (string_bytes d.text) d.named.items) k j (named_of (string_bytes d.text) x) h
-    (get_map (string_bytes d.text) d.named.items j ∙ ap (λ (z : List draft.Named). option_map (named_of (string_bytes d.text)) (slice_get z j)) (sym is) ∙ ap (option_map (named_of (string_bytes d.text))) (got xs j x lt e))
+    stands-some (meant_of d) k j (named_of (string_bytes d.text) (types_in d.types) x) h
+    (get_map (string_bytes d.text) (types_in d.types) d.named.items j ∙ ap (λ (z : List draft.DraftNamed). option_map (named_of (string_bytes d.text) (types_in d.types)) (slice_get z j)) (sym is) ∙ ap (option_map (named_of (string_bytes d.text) (types_in d.types))) (got xs j x lt e))
 
-pub named-none : (d : Definition) (k j : ℕ) (xs : List draft.Named) → xs ≡ d.named.items → j < k → length xs ≤ j → Stands d k j None
+pub named-none : (d : Definition) (k j : ℕ) (xs : List draft.DraftNamed) → xs ≡ d.named.items → j < k → length xs ≤ j → Stands d k j None
 named-none d k j xs is h lt =
-    stands-none (nameds_of (string_bytes d.text) d.named.items) k j h
-    (get_map (string_bytes d.text) d.named.items j ∙ ap (λ (z : List draft.Named). option_map (named_of (string_bytes d.text)) (slice_get z j)) (sym is) ∙ ap (option_map (named_of (string_bytes d.text))) (got_none xs j lt))
+    stands-none (meant_of d) k j h
+    (get_map (string_bytes d.text) (types_in d.types) d.named.items j ∙ ap (λ (z : List draft.DraftNamed). option_map (named_of (string_bytes d.text) (types_in d.types)) (slice_get z j)) (sym is) ∙ ap (option_map (named_of (string_bytes d.text) (types_in d.types))) (got_none xs j lt))
 
 pub named-beyond : (d : Definition) (k j : ℕ) → k ≤ j → Stands d k j None
-named-beyond d k j h = stands-beyond (nameds_of (string_bytes d.text) d.named.items) k j h
+named-beyond d k j h = stands-beyond (meant_of d) k j h
 
 -- what stands at a number has no parts
 abbrev IsPlain : TypeTree → Type 0
@@ -129,25 +129,21 @@ plain_last [] n p (suc j) = (refl, refl, refl)
 plain_last (t ∷ ts) n p zero = p zero
 plain_last (t ∷ ts) n p (suc j) = plain_last ts n (λ i. p (suc i)) j
 
-plain_grown : (ts : List TypeTree) (ns : List Named) → ((j : ℕ) → IsPlain (at ts j)) → (j : ℕ) → IsPlain (at (grown ts ns) j)
+plain_grown : (ts : List TypeTree) (ns : List MeantNamed) → ((j : ℕ) → IsPlain (at ts j)) → (j : ℕ) → IsPlain (at (grown ts ns) j)
 plain_grown ts [] p j = p j
 plain_grown ts (n ∷ ns) p j = plain_grown (ts ++ named_tree ts n ∷ []) ns (plain_last ts (named_in ts n) p) j
 
 plain : (d : Definition) (k j : ℕ) → IsPlain (at (visible d k) j)
-plain d k j = plain_grown [] (take k (nameds_of (string_bytes d.text) d.named.items)) (λ i. (refl, refl, refl)) j
+plain d k j = plain_grown [] (take k (meant_of d)) (λ i. (refl, refl, refl)) j
 
-pub no_element : (d : Definition) (k j : ℕ) (q : Place) → q ≡ p.Named j → told_at (visible d k) q ≡ element_of (told_at (visible d k) q)
-no_element d k j q is = let e : told_at (visible d k) q ≡ at (visible d k) j = ap (told_at (visible d k)) is in e ∙ sym (plain d k j).0 ∙ ap element_of (sym e)
+-- an enum or a struct has no parts
+pub no_parts : (d : Definition) (k j : ℕ) (x : TypeNode) → (x ≡ v.Enum j) ⊎ (x ≡ v.Struct j) → IsPlain (node_tree d k x)
+no_parts d k j x (inl e) = subst (λ (z : TypeNode). IsPlain (node_tree d k z)) (sym e) (plain d k j)
+no_parts d k j x (inr e) = subst (λ (z : TypeNode). IsPlain (node_tree d k z)) (sym e) (plain d k j)
 
-pub no_key : (d : Definition) (k j : ℕ) (q : Place) → q ≡ p.Named j → told_at (visible d k) q ≡ key_of (told_at (visible d k) q)
-no_key d k j q is = let e : told_at (visible d k) q ≡ at (visible d k) j = ap (told_at (visible d k)) is in e ∙ sym (plain d k j).1 ∙ ap key_of (sym e)
-
-pub no_value : (d : Definition) (k j : ℕ) (q : Place) → q ≡ p.Named j → told_at (visible d k) q ≡ value_of (told_at (visible d k) q)
-no_value d k j q is = let e : told_at (visible d k) q ≡ at (visible d k) j = ap (told_at (visible d k)) is in e ∙ sym (plain d k j).2 ∙ ap value_of (sym e)
-
-pub fields-listed : (text : List ℕ) (ts : List TypeTree) (fs : List drafted.Field) → fields_in text ts fs ≡ field_list (fields ts (fields_of text fs))
-fields-listed text ts [] = refl
-fields-listed text ts (f ∷ fs) = ap (λ (z : List types.Field). record { id = f.id.id; name = text_at text f.name; need = f.need; type = tree ts (type_of f.ty); default = default_of text f.default } ∷ z) (fields-listed text ts fs)
+pub fields-listed : (d : Definition) (k : ℕ) (fs : List drafted.DraftField) → fields_in d k fs ≡ field_list (fields (visible d k) (fields_of (string_bytes d.text) (types_in d.types) fs))
+fields-listed d k [] = refl
+fields-listed d k (f ∷ fs) = ap (λ (z : List types.DefField). field_in d k f ∷ z) (fields-listed d k fs)
 
 all_and : (b c : Bool) → (b && c) ≡ true → (b ≡ true) × (c ≡ true)
 all_and true c e = (refl, e)
@@ -158,11 +154,11 @@ all-at test [] j x e h is = absurd (omega arith)
 all-at test (y ∷ xs) zero x e h is = ap test is ∙ (all_and (test y) (list_all test xs) e).0
 all-at test (y ∷ xs) (suc j) x e h is = all-at test xs j x (all_and (test y) (list_all test xs) e).1 (omega arith) is
 
-pub length-fields : (text : List ℕ) (ts : List TypeTree) (fs : List drafted.Field) → length (fields_in text ts fs) ≡ length fs
-length-fields text ts [] = refl
-length-fields text ts (f ∷ fs) = ap suc (length-fields text ts fs)
+pub length-fields : (d : Definition) (k : ℕ) (fs : List drafted.DraftField) → length (fields_in d k fs) ≡ length fs
+length-fields d k [] = refl
+length-fields d k (f ∷ fs) = ap suc (length-fields d k fs)
 
-pub get-fields : (text : List ℕ) (ts : List TypeTree) (fs : List drafted.Field) (i : ℕ) (f : drafted.Field) → i < length fs → f ≡ get_or fs i f → slice_get (fields_in text ts fs) i ≡ Some (field_in text ts f)
-get-fields text ts [] i f h q = absurd (omega arith)
-get-fields text ts (x ∷ fs) zero f h q = ap (λ (y : drafted.Field). Some (field_in text ts y)) (sym q)
-get-fields text ts (x ∷ fs) (suc i) f h q = get-fields text ts fs i f (omega arith) q
+pub get-fields : (d : Definition) (k : ℕ) (fs : List drafted.DraftField) (i : ℕ) (z : drafted.DraftField) → i < length fs → slice_get (fields_in d k fs) i ≡ Some (field_in d k (get_or fs i z))
+get-fields d k [] i z h = absurd (omega arith)
+get-fields d k (x ∷ fs) zero z h = refl
+get-fields d k (x ∷ fs) (suc i) z h = get-fields d k fs i z (omega arith)

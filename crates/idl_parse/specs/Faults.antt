@@ -1,9 +1,9 @@
 -- The faults by their kinds.
 use Rattle.idl_grammar.specs.declared.fault.Fault.TheVariants as k
 use Rattle.idl_grammar.specs.declared.fault.Fault.{Fault}
-use Rattle.idl_grammar.specs.declared.fault.Stop.{Stop}
-use Rattle.idl_grammar.specs.declared.fault.ReadError.{ReadError}
-use Rattle.idl_grammar.specs.declared.fault.ReadError.TheVariants as r
+use Rattle.idl_grammar.specs.declared.fault.LineFault.{LineFault}
+use Rattle.exact_reading.specs.declared.stop.ReadError.{ReadError}
+use Rattle.exact_reading.specs.declared.stop.ReadError.TheVariants as r
 use Rattle.std.specs.Prelude.{ℕ}
 use Rattle.idl_parse.specs.declared.fault.DefFault.{DefFault}
 use Rattle.idl_parse.specs.declared.fault.DefFault.TheVariants as f
@@ -22,9 +22,9 @@ fault_on k.TooManyNodes line = f.TooManyNodes line
 fault_on k.StructTooWide line = f.StructTooWide line
 
 -- the fault of a text whose first faulty token is this
-abbrev pub fault_of : Stop → DefFault
+abbrev pub fault_of : LineFault → DefFault
 fault_of s = fault_on s.fault s.line
 
-abbrev pub fault_of_read : ReadError → DefFault
-fault_of_read r.Memory = f.NoMemory
+abbrev pub fault_of_read : ReadError LineFault → DefFault
+fault_of_read r.NoMemory = f.NoMemory
 fault_of_read (r.Stop s) = fault_of s

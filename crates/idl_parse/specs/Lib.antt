@@ -3,4 +3,4 @@ pub mod Faults
 pub mod Meant
 pub mod Parsed
 pub mod Roots
-pub mod Told
+pub mod Refs

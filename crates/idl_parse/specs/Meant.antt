@@ -14,12 +14,12 @@ nameds (named n ∷ ts) = n ∷ nameds ts
 nameds (t ∷ ts) = nameds ts
 
 -- a definition as finite trees, where each name of a type stands for its tree
-abbrev pub definition_in : List m.Named → List Named
+abbrev pub definition_in : List m.MeantNamed → List Named
 definition_in ns = nameds (trees ns)
 
 -- the text means the definition
 pub record DefText (text : List ℕ) (d : List Named) : Type 0 where
   pub utf8 : IsUtf8 text
-  pub read : List m.Named
+  pub read : List m.MeantNamed
   pub means : DefTokens (tokens text) read
   pub is : d ≡ definition_in read

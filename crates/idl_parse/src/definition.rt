@@ -3,22 +3,23 @@ ghost use Rattle.std.specs.Prelude.{◌≡◌, ◌<◌, ◌^◌, true, vec_len, 
 ghost use Rattle.std.specs.List.{list_any, list_all};
 ghost use Rattle.idl_tokens.specs.Tokens.{tokens};
 ghost use Rattle.idl_profile.specs.DefText.{DefTokens};
-ghost use Rattle.idl_fields.specs.View.{nameds_of};
+ghost use Rattle.idl_fields.specs.View.{types_in, nameds_of};
 ghost use Rattle.idl_parse.specs.Drafts.{is_struct, has_few};
 
-use idl_fields::draft::{Expr, Field, Named};
-use idl_profile::Scalar;
+use idl_fields::TypeNodes;
+use idl_fields::draft::{DraftField, DraftNamed, TypeNode};
 use std::string::String;
 
 /// A definition: the enums and structs that a text defines, in the order of the text. Typedefs are resolved, and fields stand by rising id.
 #[derive(Debug, Drop)]
 pub struct Definition {
     pub(crate) text: String,
-    pub(crate) named: Vec<Named>,
+    pub(crate) named: Vec<DraftNamed>,
+    pub(crate) types: TypeNodes,
     ghost rooted: { list_any is_struct named.items ≡ true },
     ghost few: { list_all has_few named.items ≡ true },
     ghost counted: { vec_len named < 2 ^ 32 },
-    ghost meant: { ∥ DefTokens (tokens (string_bytes text)) (nameds_of (string_bytes text) named.items) ∥₁ },
+    ghost meant: { ∥ DefTokens (tokens (string_bytes text)) (nameds_of (string_bytes text) (types_in types) named.items) ∥₁ },
 }
 
 /// The default of a field, as it is written.
@@ -35,23 +36,13 @@ pub enum DefaultRef<'a> {
     Empty,
 }
 
-// A type by its outermost part; an enum or a struct by its number.
-#[derive(Clone, Copy)]
-pub enum Place<'a> {
-    Named(u32),
-    Scalar(Scalar),
-    List(&'a Expr),
-    Set(&'a Expr),
-    Map(&'a Expr, &'a Expr),
-}
-
 /// A type of a definition.
 #[derive(Clone, Copy)]
 pub struct TypeRef<'a> {
     pub(crate) def: &'a Definition,
     // How many of the enums and structs, from the first on, it may name.
     pub(crate) within: u32,
-    pub(crate) place: Place<'a>,
+    pub(crate) node: TypeNode,
 }
 
 /// A field of a struct of a definition.
@@ -60,5 +51,5 @@ pub struct FieldRef<'a> {
     pub(crate) def: &'a Definition,
     // How many of the enums and structs, from the first on, its type may name.
     pub(crate) within: u32,
-    pub(crate) field: &'a Field,
+    pub(crate) field: &'a DraftField,
 }

@@ -3,15 +3,19 @@
 
 mod definition;
 mod fault;
+mod halving;
+mod laws;
 mod parsing;
 mod parts;
+mod refs;
 mod root;
-mod told;
 
 pub use definition::{DefaultRef, Definition, FieldRef, TypeRef};
 pub use fault::DefFault;
 pub use idl_profile::{Need, TypeKind};
+pub use laws::texts_have_one_answer;
 pub use parsing::parse;
+pub use parts::parts_of;
 
 #[cfg(test)]
 mod tests;

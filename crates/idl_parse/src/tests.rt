@@ -78,7 +78,7 @@ fn texts_are_answered(rt: HostRuntime) -> Result<(), Fail> {
 }
 
 #[test]
-fn types_are_told(rt: HostRuntime) -> Result<(), Fail> {
+fn references_tell_types(rt: HostRuntime) -> Result<(), Fail> {
     let alloc = rt.alloc();
     let text =
         "enum E {A} struct S {1: i32 x} struct T {7: required S s 2: map<E, list<string>> m = {}}";
@@ -95,5 +95,22 @@ fn types_are_told(rt: HostRuntime) -> Result<(), Fail> {
     assert_eq!(rt; s.need(), Need::Required);
     assert_eq!(rt; s.ty().kind(), TypeKind::Struct);
     assert!(rt; root.field(1).is_none() && root.field_named("t").is_none());
+    Ok(())
+}
+
+#[test]
+fn typedefs_of_lists_are_read(rt: HostRuntime) -> Result<(), Fail> {
+    let alloc = rt.alloc();
+    let text = "struct S {1: u t} typedef i8 u";
+    assert!(rt; parse(alloc, text.as_bytes()).is_err());
+    let text =
+        "typedef i8 t0 typedef list<list<t0>> t1 typedef list<map<t0, t1>> t2 struct S {1: t2 x}";
+    let def = parse(alloc, text.as_bytes())?;
+    let x = def.root().field_named("x").ok_or("x is a field")?;
+    assert_eq!(rt; x.ty().kind(), TypeKind::List);
+    let map = x.ty().element();
+    assert_eq!(rt; map.kind(), TypeKind::Map);
+    assert_eq!(rt; map.key().kind(), TypeKind::I8);
+    assert_eq!(rt; map.value().kind(), TypeKind::List);
     Ok(())
 }

@@ -8,9 +8,10 @@ use Rattle.idl_profile.specs.Meaning as m
 use Rattle.idl_profile.specs.Types as types
 use Rattle.idl_profile.specs.Types.{TypeTree, field_list}
 use Rattle.idl_profile.specs.Measures.{at, tree, fields, named_of, named_tree}
-use Rattle.idl_fields.specs.declared.draft.Named as draft
+use Rattle.idl_fields.specs.declared.draft.DraftNamed as draft
 use Rattle.idl_fields.specs.View.{named_of as view, nameds_of}
 use Rattle.idl_parse.specs.Parsed.{nameds, definition_in}
+use Rattle.idl_profile.proofs.Growing.{grown}
 use Rattle.idl_print.specs.Printed as p
 use Rattle.idl_print.specs.Printed.{newline, need_text, member_text}
 use Rattle.idl_print.specs.Written.{name_at, type_text, empty_text, default_text, field_text, named_text, written_behind}
@@ -18,10 +19,10 @@ use Rattle.idl_parse.proofs.Rooting.{nameds-append}
 use Rattle.idl_print.proofs.SameText.{scalar-same, scalar-empty, name-same}
 
 -- the trees are those of the enums and structs, and beyond them there is a bool
-abbrev Stand : List m.Named → List TypeTree → Type 0
+abbrev Stand : List m.MeantNamed → List TypeTree → Type 0
 Stand ns ts = (n : ℕ) → (p.type_text (at ts n) ≡ name_at ns n) × (p.empty_text (at ts n) ≡ codes "{}")
 
-module _ (ns : List m.Named) (ts : List TypeTree) (st : Stand ns ts) where
+module _ (ns : List m.MeantNamed) (ts : List TypeTree) (st : Stand ns ts) where
   type-same : (t : m.Ty) → p.type_text (tree ts t) ≡ type_text ns t
   type-same (m.scalar s) = scalar-same s
   type-same (m.enum n) = (st n).0
@@ -47,10 +48,10 @@ module _ (ns : List m.Named) (ts : List TypeTree) (st : Stand ns ts) where
   default-same t (types.text_default x) = refl
   default-same t types.empty_default = ap (λ (z : List ℕ). codes " = " ++ z) (empty-same t)
 
-  abbrev line : m.Field → List ℕ → List ℕ → List ℕ
+  abbrev line : m.MeantField → List ℕ → List ℕ → List ℕ
   line f t d = codes "  " ++ signed_decimal f.id ++ codes ": " ++ need_text f.need ++ t ++ codes " " ++ f.name ++ d ++ codes ";" ++ newline
 
-  fields-same : (fs : List m.Field) → flat_map p.field_text (field_list (fields ts fs)) ≡ flat_map (field_text ns) fs
+  fields-same : (fs : List m.MeantField) → flat_map p.field_text (field_list (fields ts fs)) ≡ flat_map (field_text ns) fs
   fields-same [] = refl
   fields-same (f ∷ fs) =
       let one : line f (p.type_text (tree ts f.type)) (p.default_text (tree ts f.type) f.default) ≡ line f (type_text ns f.type) (default_text f.type f.default) =
@@ -58,28 +59,25 @@ module _ (ns : List m.Named) (ts : List TypeTree) (st : Stand ns ts) where
       in
       ap (λ (z : List ℕ). z ++ flat_map p.field_text (field_list (fields ts fs))) one ∙ ap (λ (z : List ℕ). line f (type_text ns f.type) (default_text f.type f.default) ++ z) (fields-same fs)
 
-  named-same : (n : m.Named) → p.named_text (named_of ts n) ≡ named_text ns n
+  named-same : (n : m.MeantNamed) → p.named_text (named_of ts n) ≡ named_text ns n
   named-same (m.enum_of w xs) = refl
   named-same (m.struct_of w fs) = ap (λ (z : List ℕ). codes "struct " ++ w ++ codes " {" ++ newline ++ z ++ codes "}" ++ newline) (fields-same fs)
 
-same-append : (ns ms : List m.Named) (ts us : List TypeTree) → length ts ≡ length ns → ((n : ℕ) → n < length ts → (p.type_text (at ts n) ≡ name_at ns n) × (p.empty_text (at ts n) ≡ codes "{}")) → Stand ms us → Stand (ns ++ ms) (ts ++ us)
+same-append : (ns ms : List m.MeantNamed) (ts us : List TypeTree) → length ts ≡ length ns → ((n : ℕ) → n < length ts → (p.type_text (at ts n) ≡ name_at ns n) × (p.empty_text (at ts n) ≡ codes "{}")) → Stand ms us → Stand (ns ++ ms) (ts ++ us)
 same-append [] ms [] us len st h n = h n
 same-append [] ms (t ∷ ts) us len st h n = absurd (omega arith)
 same-append (x ∷ ns) ms [] us len st h n = absurd (omega arith)
 same-append (x ∷ ns) ms (t ∷ ts) us len st h zero = st zero (omega arith)
 same-append (x ∷ ns) ms (t ∷ ts) us len st h (suc n) = same-append ns ms ts us (omega arith) (λ k lt. st (suc k) (omega arith)) h n
 
-last-stands : (ts : List TypeTree) (n : m.Named) → Stand (n ∷ []) (named_tree ts n ∷ [])
+last-stands : (ts : List TypeTree) (n : m.MeantNamed) → Stand (n ∷ []) (named_tree ts n ∷ [])
 last-stands ts n zero = (name-same ts n, refl)
 last-stands ts n (suc i) = (refl, refl)
 
-stand-push : (ns : List m.Named) (ts : List TypeTree) (n : m.Named) → length ts ≡ length ns → Stand ns ts → Stand (ns ++ n ∷ []) (ts ++ named_tree ts n ∷ [])
+stand-push : (ns : List m.MeantNamed) (ts : List TypeTree) (n : m.MeantNamed) → length ts ≡ length ns → Stand ns ts → Stand (ns ++ n ∷ []) (ts ++ named_tree ts n ∷ [])
 stand-push ns ts n len st = same-append ns (n ∷ []) ts (named_tree ts n ∷ []) len (λ k lt. st k) (last-stands ts n)
 
-abbrev grown : List TypeTree → List m.Named → List TypeTree
-grown ts ns = fold (λ us n. us ++ named_tree us n ∷ []) ts ns
-
-all-same : (before ns : List m.Named) (ts : List TypeTree) → length ts ≡ length before → Stand before ts → p.printed (nameds (grown ts ns)) ≡ p.printed (nameds ts) ++ written_behind before ns
+all-same : (before ns : List m.MeantNamed) (ts : List TypeTree) → length ts ≡ length before → Stand before ts → p.printed (nameds (grown ts ns)) ≡ p.printed (nameds ts) ++ written_behind before ns
 all-same before [] ts len st = sym (append-nil (p.printed (nameds ts)))
 all-same before (n ∷ ns) ts len st =
     let us : List TypeTree = ts ++ named_tree ts n ∷ [] in
@@ -90,41 +88,41 @@ all-same before (n ∷ ns) ts len st =
     in
     ih ∙ ap (λ (z : List ℕ). z ++ written_behind (before ++ n ∷ []) ns) one ∙ simp (append_assoc, append-nil)
 
-pub any_text : (ns : List m.Named) → written_behind [] ns ≡ p.printed (definition_in ns)
+pub any_text : (ns : List m.MeantNamed) → written_behind [] ns ≡ p.printed (definition_in ns)
 any_text ns = sym (all-same [] ns [] refl (λ n. (refl, refl)))
 
 -- ---- the loop
 
 -- what is still to be written at a place
-abbrev pub still : List ℕ → List draft.Named → ℕ → List ℕ
-still text xs i = written_behind (nameds_of text (take i xs)) (nameds_of text (drop i xs))
+abbrev pub still : List ℕ → List m.Ty → List draft.DraftNamed → ℕ → List ℕ
+still text vs xs i = written_behind (nameds_of text vs (take i xs)) (nameds_of text vs (drop i xs))
 
-nameds-append-view : (text : List ℕ) (xs ys : List draft.Named) → nameds_of text (xs ++ ys) ≡ nameds_of text xs ++ nameds_of text ys
-nameds-append-view text [] ys = refl
-nameds-append-view text (x ∷ xs) ys = ap (λ (z : List m.Named). view text x ∷ z) (nameds-append-view text xs ys)
+nameds-append-view : (text : List ℕ) (vs : List m.Ty) (xs ys : List draft.DraftNamed) → nameds_of text vs (xs ++ ys) ≡ nameds_of text vs xs ++ nameds_of text vs ys
+nameds-append-view text vs [] ys = refl
+nameds-append-view text vs (x ∷ xs) ys = ap (λ (z : List m.MeantNamed). view text vs x ∷ z) (nameds-append-view text vs xs ys)
 
-take-next : (xs : List draft.Named) (i : ℕ) (x : draft.Named) → i < length xs → x ≡ get_or xs i x → take (suc i) xs ≡ take i xs ++ x ∷ []
+take-next : (xs : List draft.DraftNamed) (i : ℕ) (x : draft.DraftNamed) → i < length xs → x ≡ get_or xs i x → take (suc i) xs ≡ take i xs ++ x ∷ []
 take-next [] i x h e = absurd (omega arith)
-take-next (y ∷ xs) zero x h e = ap (λ (z : draft.Named). z ∷ []) (sym e)
-take-next (y ∷ xs) (suc i) x h e = ap (λ (z : List draft.Named). y ∷ z) (take-next xs i x (omega arith) e)
+take-next (y ∷ xs) zero x h e = ap (λ (z : draft.DraftNamed). z ∷ []) (sym e)
+take-next (y ∷ xs) (suc i) x h e = ap (λ (z : List draft.DraftNamed). y ∷ z) (take-next xs i x (omega arith) e)
 
-drop-past : (xs : List draft.Named) (i : ℕ) → length xs ≤ i → drop i xs ≡ []
+drop-past : (xs : List draft.DraftNamed) (i : ℕ) → length xs ≤ i → drop i xs ≡ []
 drop-past [] zero h = refl
 drop-past [] (suc i) h = refl
 drop-past (x ∷ xs) zero h = absurd (omega arith)
 drop-past (x ∷ xs) (suc i) h = drop-past xs i (omega arith)
 
-pub still_more : (text : List ℕ) (xs : List draft.Named) (i : ℕ) (x : draft.Named) (out new goal : List ℕ) → i < length xs → x ≡ get_or xs i x → new ≡ out ++ named_text (nameds_of text (take i xs)) (view text x) → out ++ still text xs i ≡ goal
-    → new ++ still text xs (i + 1) ≡ goal
-still_more text xs i x out new goal lt is e h =
+pub still_more : (text : List ℕ) (vs : List m.Ty) (xs : List draft.DraftNamed) (i : ℕ) (x : draft.DraftNamed) (out new goal : List ℕ) → i < length xs → x ≡ get_or xs i x → new ≡ out ++ named_text (nameds_of text vs (take i xs)) (view text vs x) → out ++ still text vs xs i ≡ goal
+    → new ++ still text vs xs (i + 1) ≡ goal
+still_more text vs xs i x out new goal lt is e h =
     let k : i + 1 ≡ suc i = omega arith in
-    let d : drop i xs ≡ x ∷ drop (suc i) xs = drop-cons xs i x lt ∙ ap (λ (z : draft.Named). z ∷ drop (suc i) xs) (sym is) in
-    let t : nameds_of text (take (suc i) xs) ≡ nameds_of text (take i xs) ++ view text x ∷ [] = ap (nameds_of text) (take-next xs i x lt is) ∙ nameds-append-view text (take i xs) (x ∷ []) in
-    let here : still text xs i ≡ named_text (nameds_of text (take i xs)) (view text x) ++ still text xs (suc i) =
-    ap (λ (zs : List draft.Named). written_behind (nameds_of text (take i xs)) (nameds_of text zs)) d
-    ∙ ap (λ (zs : List m.Named). named_text (nameds_of text (take i xs)) (view text x) ++ written_behind zs (nameds_of text (drop (suc i) xs))) (sym t)
+    let d : drop i xs ≡ x ∷ drop (suc i) xs = drop-cons xs i x lt ∙ ap (λ (z : draft.DraftNamed). z ∷ drop (suc i) xs) (sym is) in
+    let t : nameds_of text vs (take (suc i) xs) ≡ nameds_of text vs (take i xs) ++ view text vs x ∷ [] = ap (nameds_of text vs) (take-next xs i x lt is) ∙ nameds-append-view text vs (take i xs) (x ∷ []) in
+    let here : still text vs xs i ≡ named_text (nameds_of text vs (take i xs)) (view text vs x) ++ still text vs xs (suc i) =
+    ap (λ (zs : List draft.DraftNamed). written_behind (nameds_of text vs (take i xs)) (nameds_of text vs zs)) d
+    ∙ ap (λ (zs : List m.MeantNamed). named_text (nameds_of text vs (take i xs)) (view text vs x) ++ written_behind zs (nameds_of text vs (drop (suc i) xs))) (sym t)
     in
-    rw (k, e) (append_assoc out (named_text (nameds_of text (take i xs)) (view text x)) (still text xs (suc i)) ∙ ap (λ (z : List ℕ). out ++ z) (sym here) ∙ h)
+    rw (k, e) (append_assoc out (named_text (nameds_of text vs (take i xs)) (view text vs x)) (still text vs xs (suc i)) ∙ ap (λ (z : List ℕ). out ++ z) (sym here) ∙ h)
 
-pub still_none : (text : List ℕ) (xs : List draft.Named) (i : ℕ) (out goal : List ℕ) → length xs ≤ i → out ++ still text xs i ≡ goal → out ≡ goal
-still_none text xs i out goal le h = sym (append-nil out) ∙ ap (λ (zs : List draft.Named). out ++ written_behind (nameds_of text (take i xs)) (nameds_of text zs)) (sym (drop-past xs i le)) ∙ h
+pub still_none : (text : List ℕ) (vs : List m.Ty) (xs : List draft.DraftNamed) (i : ℕ) (out goal : List ℕ) → length xs ≤ i → out ++ still text vs xs i ≡ goal → out ≡ goal
+still_none text vs xs i out goal le h = sym (append-nil out) ∙ ap (λ (zs : List draft.DraftNamed). out ++ written_behind (nameds_of text vs (take i xs)) (nameds_of text vs zs)) (sym (drop-past xs i le)) ∙ h

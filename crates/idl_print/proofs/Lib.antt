@@ -17,3 +17,4 @@ pub mod SameText
 pub mod Utf8
 pub mod AnyText
 pub mod PrintedAnswer
+pub mod Ranks

@@ -1,6 +1,7 @@
 -- Fronts of lists, places in them, and tests that both fail.
 use Rattle.std.proofs.Common.{◌≡◌, ◌⊎◌, inl, inr, ℕ, zero, suc, Bool, true, false, ◌||◌, List, [], ◌∷◌, ◌++◌, length, take, drop, Some, refl, ap}
 use Rattle.std.specs.Prelude.{slice_get}
+pub use Rattle.idl_profile.proofs.Each.{neither}
 
 pub front-taken : (w rest : List ℕ) → take (length w) (w ++ rest) ≡ w
 front-taken [] rest = refl
@@ -19,7 +20,3 @@ get-last [] y x zero h = inr (refl, cc)
 get-last [] y x (suc i) h = absurd cc
 get-last (z ∷ xs) y x zero h = inl h
 get-last (z ∷ xs) y x (suc i) h = elim (get-last xs y x i h) [ inl g ↦ inl g | inr g ↦ inr (ap suc g.0, g.1) ]
-
-pub neither : (p q : Bool) → (p || q) ≡ false → (p ≡ false) × (q ≡ false)
-neither true q e = absurd cc
-neither false q e = (refl, e)

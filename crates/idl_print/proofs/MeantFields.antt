@@ -1,4 +1,5 @@
 -- What a text means is proper: defaults and fields.
+use Rattle.idl_profile.proofs.Ids.{field-turn}
 use Rattle.std.proofs.Common.{◌≡◌, ◌≢◌, ℕ, Bool, true, false, ◌==◌, ◌&&◌, ◌||◌, if◌then◌else◌, List, [], ◌∷◌, ◌++◌, Option, Some, None, Result, Ok, Err, refl, sym, ap, ◌∙◌, subst, arith}
 use Rattle.std.specs.Prelude.{ℤ, pos, negsuc, int_le, codes, slice_get}
 use Rattle.std.specs.List.{list_any}
@@ -10,10 +11,11 @@ use Rattle.idl_grammar.specs.declared.fault.Fault.{Fault}
 use Rattle.idl_grammar.specs.declared.fault.Fault.TheVariants as fault
 use Rattle.idl_tokens.specs.Tokens.{Tok, word, number, literal, mark, finish, bad, Toks}
 use Rattle.idl_grammar.specs.Grammar.{leave, enter, wrong, give, token, next, look, Spells}
-use Rattle.idl_profile.specs.declared.kinds.Scalar.TheVariants as k
+use Rattle.idl_profile.specs.declared.kinds.BaseType.TheVariants as k
 use Rattle.idl_profile.specs.Meaning as m
 use Rattle.idl_profile.specs.Types as types
-use Rattle.idl_profile.specs.Judged.{a_mark, taken, is_mark, one_of, has_backslash, new_name, an_id, entered, a_field, Start, complete, closed_by, an_int, number_default, literal_default, member_number, enum_members, word_default, bracket_default, brace_default, a_default, is_i32, field_names, ids}
+use Rattle.name_index.specs.Names.{is_among}
+use Rattle.idl_profile.specs.Judged.{a_mark, taken, is_mark, has_backslash, new_name, an_id, entered, a_field, Start, complete, closed_by, an_int, number_default, literal_default, member_number, enum_members, word_default, bracket_default, brace_default, a_default, is_i32, field_names, ids}
 use Rattle.idl_profile.specs.Text.{pick, start, need_of, type, default, typed, Typed, field, make_field, one_field, fields, added}
 use Rattle.idl_print.proofs.Pieces.{IsLiteral}
 use Rattle.idl_print.proofs.Numbers.{Is64}
@@ -39,7 +41,7 @@ id-64 (negsuc n) h = grind (arith, ints, nat_tests)
 -- ---- defaults
 
 -- the members of each enum are proper
-abbrev pub EnumsFit : List m.Named → Type 0
+abbrev pub EnumsFit : List m.MeantNamed → Type 0
 EnumsFit ns = (n : ℕ) (w : List ℕ) (xs : List types.Member) → slice_get ns n ≡ Some (m.enum_of w xs) → Each MemberFits xs
 
 abbrev StartFits : m.Ty → Start → Type 0
@@ -95,12 +97,12 @@ member-fits n name (x ∷ xs) w s f e = by_test (λ k. member-fits n name xs w s
     by_test ih true h = start-same (m.enum n) (complete (types.int_default x.number)) s h (rw (i32-most x.number f.0.1) refl, i32-64 x.number f.0.1)
     by_test ih false h = ih h
 
-enum-fits : (n : ℕ) (o : Option m.Named) (w : List ℕ) (s : Start) → ((v : List ℕ) (xs : List types.Member) → o ≡ Some (m.enum_of v xs) → Each MemberFits xs) → enum_members o w ≡ Ok s → StartFits (m.enum n) s
+enum-fits : (n : ℕ) (o : Option m.MeantNamed) (w : List ℕ) (s : Start) → ((v : List ℕ) (xs : List types.Member) → o ≡ Some (m.enum_of v xs) → Each MemberFits xs) → enum_members o w ≡ Ok s → StartFits (m.enum n) s
 enum-fits n None w s f e = absurd cc
 enum-fits n (Some (m.enum_of v xs)) w s f e = member-fits n v xs w s (f v xs refl) e
 enum-fits n (Some (m.struct_of v fs)) w s f e = absurd cc
 
-word-fits : (ns : List m.Named) → EnumsFit ns → (t : m.Ty) (w : List ℕ) (s : Start) → word_default ns t w ≡ Ok s → StartFits t s
+word-fits : (ns : List m.MeantNamed) → EnumsFit ns → (t : m.Ty) (w : List ℕ) (s : Start) → word_default ns t w ≡ Ok s → StartFits t s
 word-fits ns ef (m.scalar k.Flag) w s e = by_tests (bytes_eq w (codes "true")) (bytes_eq w (codes "false")) e
   where
     by_tests : (p q : Bool) → (if p then Ok (complete (types.flag_default true)) else (if q then Ok (complete (types.flag_default false)) else Err fault.BadDefault)) ≡ Ok s → StartFits (m.scalar k.Flag) s
@@ -140,7 +142,7 @@ mark-fits t true q s e = bracket-fits t s e
 mark-fits t false true s e = brace-fits t s e
 mark-fits t false false s e = absurd cc
 
-start-fits : (ns : List m.Named) → EnumsFit ns → (t : m.Ty) (x : Tok) (s : Start) → TokFits x → a_default ns t x ≡ Ok s → StartFits t s
+start-fits : (ns : List m.MeantNamed) → EnumsFit ns → (t : m.Ty) (x : Tok) (s : Start) → TokFits x → a_default ns t x ≡ Ok s → StartFits t s
 start-fits ns ef t (word w) s f e = word-fits ns ef t w s e
 start-fits ns ef t (number None) s f e = absurd cc
 start-fits ns ef t (number (Some z)) s f e = number-fits t z s f e
@@ -153,7 +155,7 @@ started : (t : m.Ty) (s : Start) (d : types.Default) (ts rest : Toks) → Spells
 started t (complete x) d ts rest h f = subst (DefaultFits t) h.0 f
 started t (closed_by c) d ts rest h f = subst (DefaultFits t) h.3.0 f
 
-pub default-fits : (ns : List m.Named) → EnumsFit ns → (t : m.Ty) (d : types.Default) (ts rest : Toks) → Spells (default ns t) d ts rest → Fits ts → DefaultFits t d
+pub default-fits : (ns : List m.MeantNamed) → EnumsFit ns → (t : m.Ty) (d : types.Default) (ts rest : Toks) → Spells (default ns t) d ts rest → Fits ts → DefaultFits t d
 default-fits ns ef t d [] rest h f = absurd h
 default-fits ns ef t d (x ∷ ts) rest h f = by_test (is_mark 61 x.token) h
   where
@@ -166,36 +168,10 @@ default-fits ns ef t d (x ∷ ts) rest h f = by_test (is_mark 61 x.token) h
 
 -- ---- fields
 
-an_id-is : (fs : List m.Field) (z i : ℤ) → an_id fs z ≡ Ok i → (z ≡ i) × (list_any (λ j. int_eq j z) (ids fs) ≡ false) × (id_fits z ≡ true)
-an_id-is fs z i e =
-    let a = passed-test (list_any (λ j. int_eq j z) (ids fs)) fault.RepeatedId (if id_fits z then Ok z else Err fault.BadId) i e in
-    let b = held-test (id_fits z) fault.BadId (Ok z) i a.1 in
-    (ok-same z i b.1, a.0, b.0)
+abbrev TypedFits : List m.MeantNamed → List m.MeantField → Typed → Type 0
+TypedFits ns fs p = IsName p.name × TypeFits ns false p.type × (is_among (field_names fs) p.name ≡ false)
 
-entered-is : {B : Type 0} (r : Result B Fault) (b : B) → entered r ≡ enter b → r ≡ Ok b
-entered-is (Ok c) b e = let is : c ≡ b = cc in ap Ok is
-entered-is (Err f) b e = absurd cc
-
-no_turn : {B : Type 0} (p q : Bool) (b : B) → (if p then leave else (if q then wrong fault.Unsupported else wrong fault.Syntax)) ≡ enter b → ⊥
-no_turn true q b e = cc
-no_turn false true b e = cc
-no_turn false false b e = cc
-
-field-turn : (fs : List m.Field) (t after : Tok) (i : ℤ) → a_field fs t after ≡ enter i → (list_any (λ j. int_eq j i) (ids fs) ≡ false) × (id_fits i ≡ true)
-field-turn fs (number (Some z)) after i e =
-    let a = an_id-is fs z i (entered-is (an_id fs z) i e) in
-    subst (λ (x : ℤ). (list_any (λ j. int_eq j x) (ids fs) ≡ false) × (id_fits x ≡ true)) a.0 (a.1, a.2)
-field-turn fs (number None) after i e = absurd cc
-field-turn fs (word w) after i e = absurd cc
-field-turn fs (literal x) after i e = absurd cc
-field-turn fs (mark c) after i e = absurd (no_turn (c == 125) (c == 64) i e)
-field-turn fs finish after i e = absurd cc
-field-turn fs bad after i e = absurd cc
-
-abbrev TypedFits : List m.Named → List m.Field → Typed → Type 0
-TypedFits ns fs p = IsName p.name × TypeFits ns false p.type × (one_of (field_names fs) p.name ≡ false)
-
-typed-fits : (ns : List m.Named) (es : List m.Entry) → EntriesFit ns es → (fs : List m.Field) (p : Typed) (ts rest : Toks) → Spells (typed es fs) p ts rest → Fits ts → TypedFits ns fs p
+typed-fits : (ns : List m.MeantNamed) (es : List m.Entry) → EntriesFit ns es → (fs : List m.MeantField) (p : Typed) (ts rest : Toks) → Spells (typed es fs) p ts rest → Fits ts → TypedFits ns fs p
 unfolding typed
 typed-fits ns es ef fs p ts rest h f =
     let f1 = left-fits (token (a_mark 58)) h.0 ts h.1 h.2 f in
@@ -209,14 +185,14 @@ typed-fits ns es ef fs p ts rest h f =
     let b = meant.new-name (field_names fs) a.0 w.0 a.2 a.1 in
     subst (TypedFits ns fs) w.3.0 (b.0, tf, b.1)
 
-abbrev pub FieldsFit : List m.Named → List m.Field → Type 0
+abbrev pub FieldsFit : List m.MeantNamed → List m.MeantField → Type 0
 FieldsFit ns fs = Each (FieldFits ns) fs × Distinct FieldsApart fs
 
-both-apart : (f : m.Field) (fs : List m.Field) → Each (λ g. g.id ≢ f.id) fs → Each (λ g. g.name ≢ f.name) fs → Each (λ g. FieldsApart g f) fs
+both-apart : (f : m.MeantField) (fs : List m.MeantField) → Each (λ g. g.id ≢ f.id) fs → Each (λ g. g.name ≢ f.name) fs → Each (λ g. FieldsApart g f) fs
 both-apart f [] a b = tt
 both-apart f (g ∷ fs) a b = ((a.0, b.0), both-apart f fs a.1 b.1)
 
-field-step : (ns : List m.Named) (es : List m.Entry) → EntriesFit ns es → EnumsFit ns → (fs : List m.Field) (i : ℤ) (t after : Tok) (gs : List m.Field) (ts mid : Toks)
+field-step : (ns : List m.MeantNamed) (es : List m.Entry) → EntriesFit ns es → EnumsFit ns → (fs : List m.MeantField) (i : ℤ) (t after : Tok) (gs : List m.MeantField) (ts mid : Toks)
     → TokFits t → Fits ts → a_field fs t after ≡ enter i → Spells (one_field (record { entries = es; named = ns }) fs i) gs ts mid → FieldsFit ns fs → FieldsFit ns gs
 unfolding field
 field-step ns es ef nf fs i t after gs ts mid tf f e h holds =
@@ -227,12 +203,12 @@ field-step ns es ef nf fs i t after gs ts mid tf f e h holds =
     let f1 = left-fits (typed es fs) p ts x.1 x.2 f in
     let d = x.3 in
     let df = default-fits ns nf p.type d.0 x.1 d.1 d.2 f1 in
-    let one : m.Field = make_field i p d.0 in
+    let one : m.MeantField = make_field i p d.0 in
     let fits : FieldFits ns one = (tp.0, tp.1, df, id.1) in
     let apart : Each (λ g. FieldsApart g one) fs = both-apart one fs (new-ids fs i id.0) (new-names (λ g. g.name) fs p.name tp.2) in
     let good : FieldsFit ns (added fs one) = (each-append (FieldFits ns) fs (one ∷ []) holds.0 (fits, tt), distinct-push FieldsApart fs one holds.1 apart) in
-    subst (FieldsFit ns) h.3.0 (subst (λ (g : m.Field). FieldsFit ns (added fs g)) d.3.3.0 good)
+    subst (FieldsFit ns) h.3.0 (subst (λ (g : m.MeantField). FieldsFit ns (added fs g)) d.3.3.0 good)
 
-pub fields-fit : (ns : List m.Named) (es : List m.Entry) → EntriesFit ns es → EnumsFit ns → (fs : List m.Field) (ts rest : Toks) → Spells (fields (record { entries = es; named = ns }) []) fs ts rest → Fits ts → FieldsFit ns fs
+pub fields-fit : (ns : List m.MeantNamed) (es : List m.Entry) → EntriesFit ns es → EnumsFit ns → (fs : List m.MeantField) (ts rest : Toks) → Spells (fields (record { entries = es; named = ns }) []) fs ts rest → Fits ts → FieldsFit ns fs
 fields-fit ns es ef nf fs ts rest h f =
     turns-keep a_field (one_field (record { entries = es; named = ns })) (FieldsFit ns) (λ gs i t after hs us mid tf uf e s holds. field-step ns es ef nf gs i t after hs us mid tf uf e s holds) [] fs ts rest h f (tt, tt)

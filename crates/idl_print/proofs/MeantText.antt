@@ -21,11 +21,11 @@ use Rattle.idl_print.proofs.Rising.{each-by_id, distinct-by_id, rising-by_id, by
 
 -- ---- structs
 
-ids-apart : (fs : List m.Field) → Distinct FieldsApart fs → Distinct (λ f g. f.id ≢ g.id) fs
+ids-apart : (fs : List m.MeantField) → Distinct FieldsApart fs → Distinct (λ f g. f.id ≢ g.id) fs
 ids-apart [] d = tt
 ids-apart (f ∷ fs) d = (each-map (FieldsApart f) (λ g. f.id ≢ g.id) fs (λ g a. a.0) d.0, ids-apart fs d.1)
 
-struct-named : (ns : List m.Named) (w : List ℕ) (fs : List m.Field) → IsName w → FieldsFit ns fs → measured_struct ns fs ≡ Ok yes → NamedFits ns (m.struct_of w (by_id fs))
+struct-named : (ns : List m.MeantNamed) (w : List ℕ) (fs : List m.MeantField) → IsName w → FieldsFit ns fs → measured_struct ns fs ≡ Ok yes → NamedFits ns (m.struct_of w (by_id fs))
 struct-named ns w fs n h e = (
   n,
   each-by_id (FieldFits ns) fs h.0,
@@ -34,10 +34,10 @@ struct-named ns w fs n h e = (
   sym (same-measures ns fs) ∙ e,
 )
 
-struct_end-is : (ns : List m.Named) (fs : List m.Field) (t : Tok) (u : Unit {0}) → a_struct_end ns fs t ≡ Ok u → measured_struct ns fs ≡ Ok yes
+struct_end-is : (ns : List m.MeantNamed) (fs : List m.MeantField) (t : Tok) (u : Unit {0}) → a_struct_end ns fs t ≡ Ok u → measured_struct ns fs ≡ Ok yes
 struct_end-is ns fs t u e = (held-test (is_mark 125 t) fault.Syntax (measured_struct ns fs) u e).1
 
-body-fits : (ns : List m.Named) (es : List m.Entry) → EntriesFit ns es → EnumsFit ns → (fs : List m.Field) (ts rest : Toks) → Spells (struct_body (record { entries = es; named = ns })) fs ts rest → Fits ts
+body-fits : (ns : List m.MeantNamed) (es : List m.Entry) → EntriesFit ns es → EnumsFit ns → (fs : List m.MeantField) (ts rest : Toks) → Spells (struct_body (record { entries = es; named = ns })) fs ts rest → Fits ts
     → FieldsFit ns fs × (measured_struct ns fs ≡ Ok yes)
 unfolding struct_body
 body-fits ns es ef nf fs ts rest h f =
@@ -47,7 +47,7 @@ body-fits ns es ef nf fs ts rest h f =
     let f2 = left-fits (fields (record { entries = es; named = ns }) []) g.0 h.1 g.1 g.2 f1 in
     let e = g.3 in
     let a = one-token (a_struct_end ns g.0) e.0 g.1 e.1 e.2 f2 in
-    subst (λ (z : List m.Field). FieldsFit ns z × (measured_struct ns z ≡ Ok yes)) e.3.0 (ff, struct_end-is ns g.0 a.0 e.0 a.2)
+    subst (λ (z : List m.MeantField). FieldsFit ns z × (measured_struct ns z ≡ Ok yes)) e.3.0 (ff, struct_end-is ns g.0 a.0 e.0 a.2)
 
 abbrev NewName : List m.Entry → List ℕ → Type 0
 NewName es w = IsName w × Each (λ e. e.name ≢ w) es
@@ -58,10 +58,10 @@ name-here es w ts rest h f =
     let b = meant.new-name (entry_names es) a.0 w a.2 a.1 in
     (b.0, new-names (λ e. e.name) es w b.1)
 
-abbrev PartsFit : List m.Named → List m.Entry → Parts → Type 0
+abbrev PartsFit : List m.MeantNamed → List m.Entry → Parts → Type 0
 PartsFit ns es p = NewName es p.name × FieldsFit ns p.fields × (measured_struct ns p.fields ≡ Ok yes)
 
-parts-fit : (ns : List m.Named) (es : List m.Entry) → EntriesFit ns es → EnumsFit ns → (p : Parts) (ts rest : Toks) → Spells (struct_parts (record { entries = es; named = ns })) p ts rest → Fits ts → PartsFit ns es p
+parts-fit : (ns : List m.MeantNamed) (es : List m.Entry) → EntriesFit ns es → EnumsFit ns → (p : Parts) (ts rest : Toks) → Spells (struct_parts (record { entries = es; named = ns })) p ts rest → Fits ts → PartsFit ns es p
 unfolding struct_parts
 parts-fit ns es ef nf p ts rest h f =
     let n = name-here es h.0 ts h.1 h.2 f in
@@ -159,7 +159,7 @@ enum_body-fits xs ts rest h f =
 abbrev ChoiceFits : List m.Entry → Choice → Type 0
 ChoiceFits es c = NewName es c.name × ListFits c.members
 
-choice-fits : (ns : List m.Named) (es : List m.Entry) (c : Choice) (ts rest : Toks) → Spells (enum_parts (record { entries = es; named = ns })) c ts rest → Fits ts → ChoiceFits es c
+choice-fits : (ns : List m.MeantNamed) (es : List m.Entry) (c : Choice) (ts rest : Toks) → Spells (enum_parts (record { entries = es; named = ns })) c ts rest → Fits ts → ChoiceFits es c
 unfolding enum_parts
 choice-fits ns es c ts rest h f =
     let n = name-here es h.0 ts h.1 h.2 f in
@@ -169,10 +169,10 @@ choice-fits ns es c ts rest h f =
 
 -- ---- typedefs
 
-abbrev AliasFits : List m.Named → List m.Entry → m.Entry → Type 0
+abbrev AliasFits : List m.MeantNamed → List m.Entry → m.Entry → Type 0
 AliasFits ns es e = NewName es e.name × TypeFits ns false e.type
 
-alias-fits : (ns : List m.Named) (es : List m.Entry) → EntriesFit ns es → (e : m.Entry) (ts rest : Toks) → Spells (typedef_parts es) e ts rest → Fits ts → AliasFits ns es e
+alias-fits : (ns : List m.MeantNamed) (es : List m.Entry) → EntriesFit ns es → (e : m.Entry) (ts rest : Toks) → Spells (typedef_parts es) e ts rest → Fits ts → AliasFits ns es e
 unfolding typedef_parts
 alias-fits ns es ef e ts rest h f =
     let t = type-fits ns es ef 33 false h.0 ts h.1 h.2 f in
@@ -192,7 +192,7 @@ get-pushed : {A : Type 0} (xs : List A) (y : A) → slice_get (xs ++ y ∷ []) (
 get-pushed [] y = refl
 get-pushed (x ∷ xs) y = get-pushed xs y
 
-type-grown : (ns : List m.Named) (n : m.Named) (key : Bool) (t : m.Ty) → TypeFits ns key t → TypeFits (ns ++ n ∷ []) key t
+type-grown : (ns : List m.MeantNamed) (n : m.MeantNamed) (key : Bool) (t : m.Ty) → TypeFits ns key t → TypeFits (ns ++ n ∷ []) key t
 type-grown ns n key (m.scalar s) h = tt
 type-grown ns n key (m.enum i) h = (h.0, h.1, get-grown ns n (m.enum_of h.0 h.1) i h.2)
 type-grown ns n key (m.struct i) h = (h.0, h.1, get-grown ns n (m.struct_of h.0 h.1) i h.2, h.3)
@@ -200,15 +200,15 @@ type-grown ns n key (m.list x) h = (h.0, type-grown ns n false x h.1)
 type-grown ns n key (m.set x) h = (h.0, type-grown ns n true x h.1)
 type-grown ns n key (m.map x y) h = (h.0, type-grown ns n true x h.1, type-grown ns n false y h.2)
 
-all-push : (before ns : List m.Named) (n : m.Named) → AllFit before ns → NamedFits (before ++ ns) n → IsNew (before ++ ns) n → AllFit before (ns ++ n ∷ [])
+all-push : (before ns : List m.MeantNamed) (n : m.MeantNamed) → AllFit before ns → NamedFits (before ++ ns) n → IsNew (before ++ ns) n → AllFit before (ns ++ n ∷ [])
 all-push before [] n h f g =
     let e : before ++ [] ≡ before = append-nil before in
-    (subst (λ (z : List m.Named). NamedFits z n) e f, subst (λ (z : List m.Named). IsNew z n) e g, tt)
+    (subst (λ (z : List m.MeantNamed). NamedFits z n) e f, subst (λ (z : List m.MeantNamed). IsNew z n) e g, tt)
 all-push before (x ∷ ns) n h f g =
     let e : before ++ x ∷ ns ≡ (before ++ x ∷ []) ++ ns = sym (append_assoc before (x ∷ []) ns) in
-    (h.0, h.1, all-push (before ++ x ∷ []) ns n h.2 (subst (λ (z : List m.Named). NamedFits z n) e f) (subst (λ (z : List m.Named). IsNew z n) e g))
+    (h.0, h.1, all-push (before ++ x ∷ []) ns n h.2 (subst (λ (z : List m.MeantNamed). NamedFits z n) e f) (subst (λ (z : List m.MeantNamed). IsNew z n) e g))
 
-enums-from : (before ns : List m.Named) → AllFit before ns → EnumsFit ns
+enums-from : (before ns : List m.MeantNamed) → AllFit before ns → EnumsFit ns
 enums-from before [] h n w xs e = absurd cc
 enums-from before (m.enum_of v ys ∷ ns) h zero w xs e =
     let o : m.enum_of v ys ≡ m.enum_of w xs = cc in
@@ -218,7 +218,7 @@ enums-from before (m.struct_of v fs ∷ ns) h zero w xs e = let o : m.struct_of 
 enums-from before (x ∷ ns) h (suc n) w xs e = enums-from (before ++ x ∷ []) ns h.2 n w xs e
 
 -- every enum and struct has its name among the entries
-abbrev Covered : List m.Entry → List m.Named → Type 0
+abbrev Covered : List m.Entry → List m.MeantNamed → Type 0
 Covered es ns = (w : List ℕ) → Each (λ e. e.name ≢ w) es → Each (λ n. name n ≢ w) ns
 
 pub record ScopeFits (s : m.Scope) : Type 0 where
@@ -230,7 +230,7 @@ each-front : {A : Type 0} (P : A → Type 0) (xs ys : List A) → Each P (xs ++ 
 each-front P [] ys h = (tt, h)
 each-front P (x ∷ xs) ys h = let a = each-front P xs ys h.1 in ((h.0, a.0), a.1)
 
-pushed-fits : (ns : List m.Named) (es : List m.Entry) (n : m.Named) (t : m.Ty) → ScopeFits (record { entries = es; named = ns }) → NamedFits ns n → Each (λ e. e.name ≢ name n) es → TypeFits (ns ++ n ∷ []) false t
+pushed-fits : (ns : List m.MeantNamed) (es : List m.Entry) (n : m.MeantNamed) (t : m.Ty) → ScopeFits (record { entries = es; named = ns }) → NamedFits ns n → Each (λ e. e.name ≢ name n) es → TypeFits (ns ++ n ∷ []) false t
     → ScopeFits (record { entries = es ++ record { name = name n; type = t } ∷ []; named = ns ++ n ∷ [] })
 pushed-fits ns es n t h f new tf = record {
   all = all-push [] ns n h.all f (h.covered (name n) new);
@@ -238,14 +238,14 @@ pushed-fits ns es n t h f new tf = record {
   covered = λ w e. let a = each-front (λ d. d.name ≢ w) es (record { name = name n; type = t } ∷ []) e in each-append (λ x. name x ≢ w) ns (n ∷ []) (h.covered w a.0) (a.1.0, tt);
 }
 
-alias-scope : (ns : List m.Named) (es : List m.Entry) (e : m.Entry) → ScopeFits (record { entries = es; named = ns }) → AliasFits ns es e → ScopeFits (record { entries = es ++ e ∷ []; named = ns })
+alias-scope : (ns : List m.MeantNamed) (es : List m.Entry) (e : m.Entry) → ScopeFits (record { entries = es; named = ns }) → AliasFits ns es e → ScopeFits (record { entries = es ++ e ∷ []; named = ns })
 alias-scope ns es e h f = record {
   all = h.all;
   entries = each-append (λ d. TypeFits ns false d.type) es (e ∷ []) h.entries (f.1, tt);
   covered = λ w g. h.covered w (each-front (λ d. d.name ≢ w) es (e ∷ []) g).0;
 }
 
-item-step : (ns : List m.Named) (es : List m.Entry) (b : Begin) (i : Item) (ts mid : Toks) → Fits ts → Spells (item (record { entries = es; named = ns }) b) i ts mid → ScopeFits (record { entries = es; named = ns })
+item-step : (ns : List m.MeantNamed) (es : List m.Entry) (b : Begin) (i : Item) (ts mid : Toks) → Fits ts → Spells (item (record { entries = es; named = ns }) b) i ts mid → ScopeFits (record { entries = es; named = ns })
     → ScopeFits (with_item (record { entries = es; named = ns }) i)
 unfolding item
 item-step ns es a_namespace i ts mid f h holds = subst (λ (z : Item). ScopeFits (with_item (record { entries = es; named = ns }) z)) h.3.0 holds
@@ -255,12 +255,12 @@ item-step ns es a_typedef i ts mid f h holds =
     subst (λ (z : Item). ScopeFits (with_item (record { entries = es; named = ns }) z)) h.3.0 (alias-scope ns es h.0 holds a)
 item-step ns es an_enum i ts mid f h holds =
     let c = choice-fits ns es h.0 ts h.1 h.2 f in
-    let n : m.Named = m.enum_of h.0.name h.0.members in
+    let n : m.MeantNamed = m.enum_of h.0.name h.0.members in
     let fits : NamedFits ns n = (c.0.0, c.1.0, c.1.1) in
     subst (λ (z : Item). ScopeFits (with_item (record { entries = es; named = ns }) z)) h.3.0 (pushed-fits ns es n (m.enum (length ns)) holds fits c.0.1 (h.0.name, h.0.members, get-pushed ns n))
 item-step ns es a_struct i ts mid f h holds =
     let p = parts-fit ns es holds.entries (enums-from [] ns holds.all) h.0 ts h.1 h.2 f in
-    let n : m.Named = m.struct_of h.0.name (by_id h.0.fields) in
+    let n : m.MeantNamed = m.struct_of h.0.name (by_id h.0.fields) in
     let fits : NamedFits ns n = struct-named ns h.0.name h.0.fields p.0.0 p.1 p.2 in
     subst (λ (z : Item). ScopeFits (with_item (record { entries = es; named = ns }) z)) h.3.0 (pushed-fits ns es n (m.struct (length ns)) holds fits p.0.1 (h.0.name, by_id h.0.fields, get-pushed ns n, refl))
 

@@ -90,8 +90,8 @@ word-tokens (c ∷ w) rest l h a =
 
 literal-by : (q : ℕ) (x rest : List ℕ) (l : ℕ) → Every (is_in_literal q) x → prefix_len (is_in_literal q) (q ∷ rest) ≡ 0 → (q == q) ≡ true → is_in_line q ≡ true → ((c : ℕ) → is_in_literal q c ≡ true → is_in_line c ≡ true)
     → front q (x ++ q ∷ rest) ≡ behind_quote q (x ++ q ∷ rest) → tokens_behind 0 l (q ∷ x ++ q ∷ rest) ≡ spot (literal x) l ∷ tokens_behind 0 l rest
-literal-by q x rest l h stop same line in_line is =
-    let n : prefix_len (is_in_literal q) (x ++ q ∷ rest) ≡ length x = front-len (is_in_literal q) x (q ∷ rest) h stop in
+literal-by q x rest l h line_fault same line in_line is =
+    let n : prefix_len (is_in_literal q) (x ++ q ∷ rest) ≡ length x = front-len (is_in_literal q) x (q ∷ rest) h line_fault in
     let e : front q (x ++ q ∷ rest) ≡ token (literal x) (length x + 1) = is ∙ rw (n, front-dropped x (q ∷ rest), same, front-taken x (q ∷ rest)) refl in
     let a : x ++ q ∷ rest ≡ (x ++ q ∷ []) ++ rest = simp append_assoc in
     rw (e, same_line q l line)

@@ -22,12 +22,12 @@ use Rattle.idl_print.proofs.MeantText.{meant-proper}
 use Rattle.idl_print.proofs.SameText.{same-text}
 use Rattle.idl_print.proofs.Utf8.{all-utf8}
 
-named-word : (ns : List m.Named) (n : m.Named) → NamedFits ns n → IsWord (name n)
+named-word : (ns : List m.MeantNamed) (n : m.MeantNamed) → NamedFits ns n → IsWord (name n)
 named-word ns (m.enum_of w xs) h = h.0.0
 named-word ns (m.struct_of w fs) h = h.0.0
 
 -- the name at a place where an enum or a struct stands
-words : (before ns : List m.Named) → AllFit before ns → (n : ℕ) (x : m.Named) → slice_get ns n ≡ Some x → IsWord (name_at ns n)
+words : (before ns : List m.MeantNamed) → AllFit before ns → (n : ℕ) (x : m.MeantNamed) → slice_get ns n ≡ Some x → IsWord (name_at ns n)
 words before [] h n x e = absurd cc
 words before (y ∷ ns) h zero x e = named-word before y h.0
 words before (y ∷ ns) h (suc n) x e = words (before ++ y ∷ []) ns h.2 n x e
@@ -37,11 +37,11 @@ get-front [] ys i x e = absurd cc
 get-front (z ∷ xs) ys zero x e = e
 get-front (z ∷ xs) ys (suc i) x e = get-front xs ys i x e
 
-module _ (all : List m.Named) (proper : IsProper all) where
-  word-at : (before ns : List m.Named) → before ++ ns ≡ all → (n : ℕ) (x : m.Named) → slice_get before n ≡ Some x → IsWord (name_at all n)
-  word-at before ns is n x e = words [] all proper n x (subst (λ (z : List m.Named). slice_get z n ≡ Some x) is (get-front before ns n x e))
+module _ (all : List m.MeantNamed) (proper : IsProper all) where
+  word-at : (before ns : List m.MeantNamed) → before ++ ns ≡ all → (n : ℕ) (x : m.MeantNamed) → slice_get before n ≡ Some x → IsWord (name_at all n)
+  word-at before ns is n x e = words [] all proper n x (subst (λ (z : List m.MeantNamed). slice_get z n ≡ Some x) is (get-front before ns n x e))
 
-  type-words : (before ns : List m.Named) → before ++ ns ≡ all → (key : Bool) (t : m.Ty) → TypeFits before key t → TypeWords all t
+  type-words : (before ns : List m.MeantNamed) → before ++ ns ≡ all → (key : Bool) (t : m.Ty) → TypeFits before key t → TypeWords all t
   type-words before ns is key (m.scalar s) h = tt
   type-words before ns is key (m.enum n) h = word-at before ns is n (m.enum_of h.0 h.1) h.2
   type-words before ns is key (m.struct n) h = word-at before ns is n (m.struct_of h.0 h.1) h.2
@@ -56,26 +56,26 @@ module _ (all : List m.Named) (proper : IsProper all) where
   default-text t (types.text_default x) h = h.2
   default-text t types.empty_default h = tt
 
-  field-text : (before ns : List m.Named) → before ++ ns ≡ all → (f : m.Field) → FieldFits before f → FieldText all f
+  field-text : (before ns : List m.MeantNamed) → before ++ ns ≡ all → (f : m.MeantField) → FieldFits before f → FieldText all f
   field-text before ns is f h = (id-64 f.id h.3, type-words before ns is false f.type h.1, h.0.0, default-text f.type f.default h.2)
 
-  named-text : (before ns : List m.Named) → before ++ ns ≡ all → (n : m.Named) → NamedFits before n → NamedText all n
+  named-text : (before ns : List m.MeantNamed) → before ++ ns ≡ all → (n : m.MeantNamed) → NamedFits before n → NamedText all n
   named-text before ns is (m.enum_of w xs) h = (h.0.0, each-map MemberFits MemberText xs (λ x f. (f.0.0, i32-64 x.number f.1)) h.1)
   named-text before ns is (m.struct_of w fs) h = (h.0.0, each-map (FieldFits before) (FieldText all) fs (λ f g. field-text before ns is f g) h.1)
 
-  all-text : (before ns : List m.Named) → before ++ ns ≡ all → AllFit before ns → Each (NamedText all) ns
+  all-text : (before ns : List m.MeantNamed) → before ++ ns ≡ all → AllFit before ns → Each (NamedText all) ns
   all-text before [] is h = tt
   all-text before (n ∷ ns) is h = (named-text before (n ∷ ns) is n h.0, all-text (before ++ n ∷ []) ns (append_assoc before (n ∷ []) ns ∙ is) h.2)
 
 -- The tokens of the text of a proper definition.
-pub proper-tokens : (d : List m.Named) → IsProper d → tokens (written d) ≡ printed_tokens d
+pub proper-tokens : (d : List m.MeantNamed) → IsProper d → tokens (written d) ≡ printed_tokens d
 proper-tokens d h = tokens-written d (all-text d h [] d refl h)
 
-pub proper-from : (text : List ℕ) (d : List m.Named) → IsUtf8 text → DefTokens (tokens text) d → IsProper d
+pub proper-from : (text : List ℕ) (d : List m.MeantNamed) → IsUtf8 text → DefTokens (tokens text) d → IsProper d
 proper-from text d u h = subst IsProper (sym h.means) (meant-proper h.scope (tokens text) h.rest h.spells (tokens-fit text u))
 
 -- What some text means is what its own text means.
-written-means : (d : List m.Named) → IsProper d → has_struct d ≡ true → DefTokens (tokens (written d)) d
+written-means : (d : List m.MeantNamed) → IsProper d → has_struct d ≡ true → DefTokens (tokens (written d)) d
 written-means d proper root =
     let s = written-spelled d proper in
     record {
@@ -88,7 +88,7 @@ written-means d proper root =
 
 -- ---- the law
 
-module _ (text : List ℕ) (read : List m.Named) (utf8 : IsUtf8 text) (means : DefTokens (tokens text) read) where
+module _ (text : List ℕ) (read : List m.MeantNamed) (utf8 : IsUtf8 text) (means : DefTokens (tokens text) read) where
   proper : IsProper read
   proper = proper-from text read utf8 means
 

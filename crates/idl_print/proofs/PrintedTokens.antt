@@ -8,7 +8,7 @@ use Rattle.idl_profile.specs.Types as types
 use Rattle.idl_print.specs.Printed.{flag_text}
 use Rattle.idl_print.specs.Written.{name_at, scalar_text}
 
-abbrev pub type_tokens : List m.Named → ℕ → m.Ty → Toks → Toks
+abbrev pub type_tokens : List m.MeantNamed → ℕ → m.Ty → Toks → Toks
 type_tokens ns l (m.scalar s) ts = spot (word (scalar_text s)) l ∷ ts
 type_tokens ns l (m.enum n) ts = spot (word (name_at ns n)) l ∷ ts
 type_tokens ns l (m.struct n) ts = spot (word (name_at ns n)) l ∷ ts
@@ -34,11 +34,11 @@ default_tokens l t (types.int_default z) ts = spot (mark 61) l ∷ spot (number 
 default_tokens l t (types.text_default x) ts = spot (mark 61) l ∷ spot (literal x) l ∷ ts
 default_tokens l t types.empty_default ts = spot (mark 61) l ∷ empty_tokens l t ts
 
-abbrev pub field_tokens : List m.Named → ℕ → m.Field → Toks → Toks
+abbrev pub field_tokens : List m.MeantNamed → ℕ → m.MeantField → Toks → Toks
 field_tokens ns l f ts =
     spot (number (Some f.id)) l ∷ spot (mark 58) l ∷ need_tokens l f.need (type_tokens ns l f.type (spot (word f.name) l ∷ default_tokens l f.type f.default (spot (mark 59) l ∷ ts)))
 
-abbrev pub fields_tokens : List m.Named → ℕ → List m.Field → (ℕ → Toks) → Toks
+abbrev pub fields_tokens : List m.MeantNamed → ℕ → List m.MeantField → (ℕ → Toks) → Toks
 fields_tokens ns l [] rest = rest l
 fields_tokens ns l (f ∷ fs) rest = field_tokens ns l f (fields_tokens ns (l + 1) fs rest)
 
@@ -53,13 +53,13 @@ members_tokens l (x ∷ xs) rest = member_tokens l x (members_tokens (l + 1) xs 
 abbrev pub closed : (ℕ → Toks) → ℕ → Toks
 closed rest l = spot (mark 125) l ∷ rest (l + 1)
 
-abbrev pub named_tokens : List m.Named → ℕ → m.Named → (ℕ → Toks) → Toks
+abbrev pub named_tokens : List m.MeantNamed → ℕ → m.MeantNamed → (ℕ → Toks) → Toks
 named_tokens ns l (m.enum_of w xs) rest = spot (word (codes "enum")) l ∷ spot (word w) l ∷ spot (mark 123) l ∷ members_tokens (l + 1) xs (closed rest)
 named_tokens ns l (m.struct_of w fs) rest = spot (word (codes "struct")) l ∷ spot (word w) l ∷ spot (mark 123) l ∷ fields_tokens ns (l + 1) fs (closed rest)
 
-abbrev pub all_tokens : List m.Named → ℕ → List m.Named → Toks
+abbrev pub all_tokens : List m.MeantNamed → ℕ → List m.MeantNamed → Toks
 all_tokens ns l [] = spot finish l ∷ []
 all_tokens ns l (n ∷ more) = named_tokens ns l n (λ k. all_tokens ns k more)
 
-abbrev pub printed_tokens : List m.Named → Toks
+abbrev pub printed_tokens : List m.MeantNamed → Toks
 printed_tokens ns = all_tokens ns 1 ns

@@ -4,13 +4,14 @@ use Rattle.std.specs.Prelude.{not, codes, slice_get, max, nat_lt}
 use Rattle.std.proofs.lemmas.Bool.Decides.{nat_tests}
 use Rattle.idl_tokens.specs.Tokens.{word, number, literal, mark, Spot, spot, Toks}
 use Rattle.idl_grammar.specs.Grammar.{Grammar, give, look, done, more, Spells}
-use Rattle.idl_profile.specs.declared.kinds.Scalar.{Scalar}
-use Rattle.idl_profile.specs.declared.kinds.Scalar.TheVariants as k
+use Rattle.idl_profile.specs.declared.kinds.BaseType.{BaseType}
+use Rattle.idl_profile.specs.declared.kinds.BaseType.TheVariants as k
 use Rattle.idl_profile.specs.declared.kinds.Need.{Need}
 use Rattle.idl_profile.specs.declared.kinds.Need.TheVariants.{Plain, Required, Optional}
 use Rattle.idl_profile.specs.Meaning as m
 use Rattle.idl_profile.specs.Types as types
-use Rattle.idl_profile.specs.Judged.{yes, is_mark, is_sep, one_of, is_name, new_name, plain, list_head, set_head, map_head, scalar_of, container_of, a_type, is_key, a_need, an_id, entered, a_default, complete, closed_by, field_names}
+use Rattle.name_index.specs.Names.{is_among}
+use Rattle.idl_profile.specs.Judged.{yes, is_mark, is_sep, is_name, new_name, plain, list_head, set_head, map_head, scalar_of, container_of, a_type, is_key, a_need, an_id, entered, a_default, complete, closed_by, field_names}
 use Rattle.idl_profile.specs.Text.{ann, sep, pick, inner, need_of, if_need, default, typed, make_typed, field, one_field, fields, added}
 use Rattle.idl_print.specs.Written.{name_at, scalar_text}
 use Rattle.idl_print.proofs.PrintedTokens.{type_tokens, need_tokens, default_tokens, fields_tokens, closed}
@@ -32,13 +33,13 @@ no_sep s ts e = left_out (is_sep s.token) _ yes (s ∷ ts) e
 -- ---- types
 
 -- the type of the enum or struct of this number
-abbrev pub type_for : ℕ → m.Named → m.Ty
+abbrev pub type_for : ℕ → m.MeantNamed → m.Ty
 type_for n (m.enum_of w xs) = m.enum n
 type_for n (m.struct_of w fs) = m.struct n
 
 -- the names of the definition, of which these enums and structs are the first, are looked up in the entries
-abbrev pub Knows : List m.Named → List m.Named → List m.Entry → Type 0
-Knows all ns es = (n : ℕ) (x : m.Named) → slice_get ns n ≡ Some x → IsName (name_at all n) × (m.find (name_at all n) es ≡ Some (type_for n x))
+abbrev pub Knows : List m.MeantNamed → List m.MeantNamed → List m.Entry → Type 0
+Knows all ns es = (n : ℕ) (x : m.MeantNamed) → slice_get ns n ≡ Some x → IsName (name_at all n) × (m.find (name_at all n) es ≡ Some (type_for n x))
 
 abbrev pub containers : m.Ty → ℕ
 containers (m.list x) = suc (containers x)
@@ -68,7 +69,7 @@ named-type : (es : List m.Entry) (key room : Bool) (w : List ℕ) (t : m.Ty) →
 named-type es key room w t n e f =
     rw (no_keyword w (codes "float") n refl, no_keyword w (codes "double") n refl, no_scalar w n, no_container w n, n, e, f) refl
 
-scalar-type : (es : List m.Entry) (key room : Bool) (s : Scalar) → a_type es key room (word (scalar_text s)) ≡ Ok (plain (m.scalar s))
+scalar-type : (es : List m.Entry) (key room : Bool) (s : BaseType) → a_type es key room (word (scalar_text s)) ≡ Ok (plain (m.scalar s))
 unfolding scalar_of
 scalar-type es key room k.Flag = refl
 scalar-type es key room k.I8 = refl
@@ -97,7 +98,7 @@ any_key false = refl
 room-is : (d : ℕ) → nat_lt 0 (suc d) ≡ true
 room-is d = grind (arith, nat_tests)
 
-pub type-spelled : (all ns : List m.Named) (es : List m.Entry) → Knows all ns es → (t : m.Ty) (depth : ℕ) (key : Bool) (l : ℕ) (s : Spot) (ts : Toks) → containers t ≤ depth → TypeFits ns key t → is_mark 40 s.token ≡ false
+pub type-spelled : (all ns : List m.MeantNamed) (es : List m.Entry) → Knows all ns es → (t : m.Ty) (depth : ℕ) (key : Bool) (l : ℕ) (s : Spot) (ts : Toks) → containers t ≤ depth → TypeFits ns key t → is_mark 40 s.token ≡ false
     → Spells (inner es (suc depth) key) t (type_tokens all l t (s ∷ ts)) (s ∷ ts)
 unfolding inner
 type-spelled all ns es kn (m.scalar c) depth key l s ts h f a =
@@ -176,7 +177,7 @@ no_need-if : (o : Option Need) (ts : Toks) → o ≡ None → Spells (if_need o)
 no_need-if None ts e = (refl, refl)
 no_need-if (Some n) ts e = absurd cc
 
-no_need : (all ns : List m.Named) (es : List m.Entry) → Knows all ns es → (key : Bool) (t : m.Ty) (l : ℕ) (ts : Toks) → TypeFits ns key t → Spells (look need_of) Plain (type_tokens all l t ts) (type_tokens all l t ts)
+no_need : (all ns : List m.MeantNamed) (es : List m.Entry) → Knows all ns es → (key : Bool) (t : m.Ty) (l : ℕ) (ts : Toks) → TypeFits ns key t → Spells (look need_of) Plain (type_tokens all l t ts) (type_tokens all l t ts)
 no_need all ns es kn key (m.scalar k.Flag) l ts f = (refl, refl)
 no_need all ns es kn key (m.scalar k.I8) l ts f = (refl, refl)
 no_need all ns es kn key (m.scalar k.I16) l ts f = (refl, refl)
@@ -190,14 +191,14 @@ no_need all ns es kn key (m.list x) l ts f = (refl, refl)
 no_need all ns es kn key (m.set x) l ts f = (refl, refl)
 no_need all ns es kn key (m.map x y) l ts f = (refl, refl)
 
-need-spelled : (all ns : List m.Named) (es : List m.Entry) → Knows all ns es → (n : Need) (key : Bool) (t : m.Ty) (l : ℕ) (ts : Toks) → TypeFits ns key t → Spells (look need_of) n (need_tokens l n (type_tokens all l t ts)) (type_tokens all l t ts)
+need-spelled : (all ns : List m.MeantNamed) (es : List m.Entry) → Knows all ns es → (n : Need) (key : Bool) (t : m.Ty) (l : ℕ) (ts : Toks) → TypeFits ns key t → Spells (look need_of) n (need_tokens l n (type_tokens all l t ts)) (type_tokens all l t ts)
 need-spelled all ns es kn Plain key t l ts f = no_need all ns es kn key t l ts f
 need-spelled all ns es kn Required key t l ts f = (yes, type_tokens all l t ts, (refl, refl), (refl, refl))
 need-spelled all ns es kn Optional key t l ts f = (yes, type_tokens all l t ts, (refl, refl), (refl, refl))
 
 -- ---- defaults
 
-pub default-spelled : (ns : List m.Named) (t : m.Ty) (d : types.Default) (l : ℕ) (s : Spot) (ts : Toks) → DefaultFits t d → is_mark 61 s.token ≡ false → Spells (default ns t) d (default_tokens l t d (s ∷ ts)) (s ∷ ts)
+pub default-spelled : (ns : List m.MeantNamed) (t : m.Ty) (d : types.Default) (l : ℕ) (s : Spot) (ts : Toks) → DefaultFits t d → is_mark 61 s.token ≡ false → Spells (default ns t) d (default_tokens l t d (s ∷ ts)) (s ∷ ts)
 default-spelled ns t types.without l s ts f e = left_out (is_mark 61 s.token) _ types.without (s ∷ ts) e
 default-spelled ns t (types.flag_default true) l s ts f e =
     (yes, spot (word (codes "true")) l ∷ s ∷ ts, (refl, refl), (complete (types.flag_default true), s ∷ ts, (ap (λ (z : m.Ty). a_default ns z (word (codes "true"))) f, refl), (refl, refl)))
@@ -214,14 +215,14 @@ default-spelled ns (m.map x y) types.empty_default l s ts f e = (yes, spot (mark
 
 -- ---- fields
 
-pub name-is_new : (names : List (List ℕ)) (w : List ℕ) → is_name w ≡ true → one_of names w ≡ false → new_name names (word w) ≡ Ok w
+pub name-is_new : (names : List (List ℕ)) (w : List ℕ) → is_name w ≡ true → is_among names w ≡ false → new_name names (word w) ≡ Ok w
 name-is_new names w n e = rw (n, e) refl
 
-typed-spelled : (all ns : List m.Named) (es : List m.Entry) → Knows all ns es → (before : List m.Field) (f : m.Field) (l : ℕ) (ts : Toks) → FieldFits ns f → containers f.type ≤ 32 → Each (λ g. FieldsApart g f) before
+typed-spelled : (all ns : List m.MeantNamed) (es : List m.Entry) → Knows all ns es → (before : List m.MeantField) (f : m.MeantField) (l : ℕ) (ts : Toks) → FieldFits ns f → containers f.type ≤ 32 → Each (λ g. FieldsApart g f) before
     → Spells (typed es before) (make_typed f.need f.type f.name) (spot (mark 58) l ∷ need_tokens l f.need (type_tokens all l f.type (spot (word f.name) l ∷ ts))) ts
 unfolding typed
 typed-spelled all ns es kn before f l ts fits h new =
-    let names : one_of (field_names before) f.name ≡ false = names-new (λ g. g.name) before f.name (each-map (λ g. FieldsApart g f) (λ g. g.name ≢ f.name) before (λ g a. a.1) new) in (
+    let names : is_among (field_names before) f.name ≡ false = names-new (λ g. g.name) before f.name (each-map (λ g. FieldsApart g f) (λ g. g.name ≢ f.name) before (λ g a. a.1) new) in (
       yes,
       need_tokens l f.need (type_tokens all l f.type (spot (word f.name) l ∷ ts)),
       (refl, refl),
@@ -238,7 +239,7 @@ typed-spelled all ns es kn before f l ts fits h new =
       ),
     )
 
-field-spelled : (all ns : List m.Named) (es : List m.Entry) → Knows all ns es → (before : List m.Field) (f : m.Field) (l : ℕ) (ts : Toks) → FieldFits ns f → containers f.type ≤ 32 → Each (λ g. FieldsApart g f) before
+field-spelled : (all ns : List m.MeantNamed) (es : List m.Entry) → Knows all ns es → (before : List m.MeantField) (f : m.MeantField) (l : ℕ) (ts : Toks) → FieldFits ns f → containers f.type ≤ 32 → Each (λ g. FieldsApart g f) before
     → Spells (one_field (record { entries = es; named = ns }) before f.id) (added before f)
     (spot (mark 58) l ∷ need_tokens l f.need (type_tokens all l f.type (spot (word f.name) l ∷ default_tokens l f.type f.default (spot (mark 59) l ∷ ts)))) ts
 unfolding field
@@ -259,14 +260,14 @@ field-spelled all ns es kn before f l ts fits h new = (
   (refl, refl),
 )
 
-field-id : (before : List m.Field) (f : m.Field) → Each (λ g. FieldsApart g f) before → id_fits f.id ≡ true → an_id before f.id ≡ Ok f.id
+field-id : (before : List m.MeantField) (f : m.MeantField) → Each (λ g. FieldsApart g f) before → id_fits f.id ≡ true → an_id before f.id ≡ Ok f.id
 field-id before f new e = rw (ids-new before f.id (each-map (λ g. FieldsApart g f) (λ g. g.id ≢ f.id) before (λ g a. a.0) new), e) refl
 
 -- the fields of a struct, behind these
-pub fields-spelled : (all ns : List m.Named) (es : List m.Entry) → Knows all ns es → (whole before fs : List m.Field) (l : ℕ) (rest : ℕ → Toks) → before ++ fs ≡ whole → Distinct FieldsApart whole → Each (FieldFits ns) fs → Each (λ f. containers f.type ≤ 32) fs
+pub fields-spelled : (all ns : List m.MeantNamed) (es : List m.Entry) → Knows all ns es → (whole before fs : List m.MeantField) (l : ℕ) (rest : ℕ → Toks) → before ++ fs ≡ whole → Distinct FieldsApart whole → Each (FieldFits ns) fs → Each (λ f. containers f.type ≤ 32) fs
     → (n : ℕ) × Spells (fields (record { entries = es; named = ns }) before) whole (fields_tokens all l fs (closed rest)) (closed rest n)
 fields-spelled all ns es kn whole before [] l rest e d fits h =
-    (l, subst (λ (z : List m.Field). Spells (fields (record { entries = es; named = ns }) before) z (closed rest l) (closed rest l)) (sym (append-nil before) ∙ e) (done before (spot (mark 125) l) (rest (l + 1)) refl))
+    (l, subst (λ (z : List m.MeantField). Spells (fields (record { entries = es; named = ns }) before) z (closed rest l) (closed rest l)) (sym (append-nil before) ∙ e) (done before (spot (mark 125) l) (rest (l + 1)) refl))
 fields-spelled all ns es kn whole before (f ∷ fs) l rest e d fits h =
     let new : Each (λ g. FieldsApart g f) before = distinct-here FieldsApart before f fs (subst (Distinct FieldsApart) (sym e) d) in
     let e2 : added before f ++ fs ≡ whole = append_assoc before (f ∷ []) fs ∙ e in

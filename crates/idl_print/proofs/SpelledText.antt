@@ -12,7 +12,8 @@ use Rattle.idl_profile.specs.Meaning as m
 use Rattle.idl_profile.specs.Types as types
 use Rattle.idl_profile.specs.Types.{TypeTree}
 use Rattle.idl_profile.specs.Measures.{tree, trees, named_tree, fields as tree_fields, depth, depths, at, scalar_tree}
-use Rattle.idl_profile.specs.Judged.{yes, is_mark, is_sep, one_of, new_name, measured, measured_struct, is_i32, counted, a_member, Members, no_members, member_names, an_enum, a_struct, begin_of, a_definition, entry_names}
+use Rattle.name_index.specs.Names.{is_among}
+use Rattle.idl_profile.specs.Judged.{yes, is_mark, is_sep, new_name, measured, measured_struct, is_i32, counted, a_member, Members, no_members, member_names, an_enum, a_struct, begin_of, a_definition, entry_names}
 use Rattle.idl_profile.specs.Text.{closing, struct_body, struct_parts, make_parts, with_struct, own_number, member, with_member, with_enum, make_choice, enum_body, enum_parts, choice, structure, item, definition, whole}
 use Rattle.idl_print.proofs.Lists.{get-here, get-last, neither}
 use Rattle.idl_print.specs.Written.{name, name_at, name_if}
@@ -41,7 +42,7 @@ containers-below ts (m.list x) = omega (arith, containers-below ts x)
 containers-below ts (m.set x) = omega (arith, containers-below ts x)
 containers-below ts (m.map x y) = omega (arith, containers-below ts x, containers-below ts y)
 
-below-depths : (ts : List TypeTree) (fs : List m.Field) (n : ℕ) → depths (tree_fields ts fs) ≤ n → Each (λ f. containers f.type ≤ n) fs
+below-depths : (ts : List TypeTree) (fs : List m.MeantField) (n : ℕ) → depths (tree_fields ts fs) ≤ n → Each (λ f. containers f.type ≤ n) fs
 below-depths ts [] n h = tt
 below-depths ts (f ∷ fs) n h = (omega (arith, containers-below ts f.type), below-depths ts fs n (omega arith))
 
@@ -52,14 +53,14 @@ measured-depth t e = by_test (nat_lt 32 (depth t)) refl e
     by_test true is e = let h = rw is at e in absurd (let x : Err _ ≡ Ok yes = h in cc)
     by_test false is e = grind (arith, nat_tests)
 
-few_containers : (ns : List m.Named) (fs : List m.Field) → measured_struct ns fs ≡ Ok yes → Each (λ f. containers f.type ≤ 32) fs
+few_containers : (ns : List m.MeantNamed) (fs : List m.MeantField) → measured_struct ns fs ≡ Ok yes → Each (λ f. containers f.type ≤ 32) fs
 few_containers ns fs e = below-depths (trees ns) fs 32 (omega (arith, measured-depth (named_tree (trees ns) (m.struct_of [] fs)) e))
 
 -- ---- what has been defined
 
-find-new : (w : List ℕ) (es : List m.Entry) (e : m.Entry) → one_of (entry_names es) w ≡ false → bytes_eq e.name w ≡ true → m.find w (es ++ e ∷ []) ≡ Some e.type
+find-new : (w : List ℕ) (es : List m.Entry) (e : m.Entry) → is_among (entry_names es) w ≡ false → bytes_eq e.name w ≡ true → m.find w (es ++ e ∷ []) ≡ Some e.type
 find-new w [] e h is = rw is refl
-find-new w (d ∷ es) e h is = let a = neither (bytes_eq d.name w) (one_of (entry_names es) w) h in rw a.0 (find-new w es e a.1 is)
+find-new w (d ∷ es) e h is = let a = neither (bytes_eq d.name w) (is_among (entry_names es) w) h in rw a.0 (find-new w es e a.1 is)
 
 found : (w : List ℕ) (es : List m.Entry) (e : m.Entry) (t : m.Ty) → m.find w es ≡ Some t → m.find w (es ++ e ∷ []) ≡ Some t
 found w [] e t h = absurd cc
@@ -74,13 +75,13 @@ each-split P [] y h = (tt, h.0)
 each-split P (x ∷ xs) y h = let a = each-split P xs y h.1 in ((h.0, a.0), a.1)
 
 -- no name of an entry but those of the enums and structs
-abbrev Fresh : List m.Named → List m.Entry → Type 0
+abbrev Fresh : List m.MeantNamed → List m.Entry → Type 0
 Fresh ns es = (w : List ℕ) → Each (λ x. name x ≢ w) ns → Each (λ e. e.name ≢ w) es
 
-abbrev entry_for : ℕ → m.Named → m.Entry
+abbrev entry_for : ℕ → m.MeantNamed → m.Entry
 entry_for n x = record { name = name x; type = type_for n x }
 
-fresh-push : (ns : List m.Named) (es : List m.Entry) (n : m.Named) → Fresh ns es → Fresh (ns ++ n ∷ []) (es ++ entry_for (length ns) n ∷ [])
+fresh-push : (ns : List m.MeantNamed) (es : List m.Entry) (n : m.MeantNamed) → Fresh ns es → Fresh (ns ++ n ∷ []) (es ++ entry_for (length ns) n ∷ [])
 fresh-push ns es n h w e =
     let a = each-split (λ x. name x ≢ w) ns n e in
     each-append (λ d. d.name ≢ w) es (entry_for (length ns) n ∷ []) (h w a.0) (a.1, tt)
@@ -88,9 +89,9 @@ fresh-push ns es n h w e =
 bytes_same : (w : List ℕ) → bytes_eq w w ≡ true
 bytes_same w = (bytes_eq-Decides w w).1 refl
 
-module _ (all ns : List m.Named) (es : List m.Entry) (n : m.Named) (after : List m.Named) (is : ns ++ n ∷ after ≡ all) (named : IsName (name n)) (new : Each (λ e. e.name ≢ name n) es) where
+module _ (all ns : List m.MeantNamed) (es : List m.Entry) (n : m.MeantNamed) (after : List m.MeantNamed) (is : ns ++ n ∷ after ≡ all) (named : IsName (name n)) (new : Each (λ e. e.name ≢ name n) es) where
   here : name_at all (length ns) ≡ name n
-  here = ap (λ (z : List m.Named). name_at z (length ns)) (sym is) ∙ ap name_if (get-here ns n after)
+  here = ap (λ (z : List m.MeantNamed). name_at z (length ns)) (sym is) ∙ ap name_if (get-here ns n after)
 
   knows-last : IsName (name_at all (length ns)) × (m.find (name_at all (length ns)) (es ++ entry_for (length ns) n ∷ []) ≡ Some (type_for (length ns) n))
   knows-last =
@@ -104,7 +105,7 @@ module _ (all ns : List m.Named) (es : List m.Entry) (n : m.Named) (after : List
       by_place (inl g) = let k = kn i x g in (k.0, found (name_at all i) es (entry_for (length ns) n) (type_for i x) k.1)
       by_place (inr g) =
           subst (λ (z : ℕ). IsName (name_at all z) × (m.find (name_at all z) (es ++ entry_for (length ns) n ∷ []) ≡ Some (type_for z x))) (sym g.0)
-          (subst (λ (z : m.Named). IsName (name_at all (length ns)) × (m.find (name_at all (length ns)) (es ++ entry_for (length ns) n ∷ []) ≡ Some (type_for (length ns) z))) g.1 knows-last)
+          (subst (λ (z : m.MeantNamed). IsName (name_at all (length ns)) × (m.find (name_at all (length ns)) (es ++ entry_for (length ns) n ∷ []) ≡ Some (type_for (length ns) z))) g.1 knows-last)
 
 -- ---- what stands behind a definition
 
@@ -179,7 +180,7 @@ enum-spelled scope w xs l rest opens named new fits d =
 
 -- ---- structs
 
-struct-spelled : (all ns : List m.Named) (es : List m.Entry) → Knows all ns es → (w : List ℕ) (fs : List m.Field) (l : ℕ) (rest : ℕ → Toks) → ((n : ℕ) → Opens (rest n)) → Each (λ e. e.name ≢ w) es → NamedFits ns (m.struct_of w fs)
+struct-spelled : (all ns : List m.MeantNamed) (es : List m.Entry) → Knows all ns es → (w : List ℕ) (fs : List m.MeantField) (l : ℕ) (rest : ℕ → Toks) → ((n : ℕ) → Opens (rest n)) → Each (λ e. e.name ≢ w) es → NamedFits ns (m.struct_of w fs)
     → (n : ℕ) × Spells (definition (record { entries = es; named = ns }) a_struct) (with_struct (record { entries = es; named = ns }) w fs) (spot (word w) l ∷ spot (mark 123) l ∷ fields_tokens all (l + 1) fs (closed rest)) (rest n)
 unfolding item struct_parts struct_body
 struct-spelled all ns es kn w fs l rest opens new fits =
@@ -210,18 +211,18 @@ struct-spelled all ns es kn w fs l rest opens new fits =
 
 -- ---- the whole
 
-all-open : (all ns : List m.Named) (l : ℕ) → Opens (all_tokens all l ns)
+all-open : (all ns : List m.MeantNamed) (l : ℕ) → Opens (all_tokens all l ns)
 all-open all [] l = (refl, refl)
 all-open all (m.enum_of w xs ∷ ns) l = (refl, refl)
 all-open all (m.struct_of w fs ∷ ns) l = (refl, refl)
 
-all-spelled : (all before ns : List m.Named) (es : List m.Entry) (l : ℕ) → before ++ ns ≡ all → Knows all before es → Fresh before es → AllFit before ns
+all-spelled : (all before ns : List m.MeantNamed) (es : List m.Entry) (l : ℕ) → before ++ ns ≡ all → Knows all before es → Fresh before es → AllFit before ns
     → (fs : List m.Entry) × (end : Toks) × Spells (loop a_definition definition (record { entries = es; named = before })) (record { entries = fs; named = all }) (all_tokens all l ns) end
 unfolding begin_of
 all-spelled all before [] es l is kn fresh fits = (
   es,
   spot finish l ∷ [],
-  subst (λ (z : List m.Named). Spells (loop a_definition definition (record { entries = es; named = before })) (record { entries = es; named = z }) (spot finish l ∷ []) (spot finish l ∷ [])) (sym (append-nil before) ∙ is)
+  subst (λ (z : List m.MeantNamed). Spells (loop a_definition definition (record { entries = es; named = before })) (record { entries = es; named = z }) (spot finish l ∷ []) (spot finish l ∷ [])) (sym (append-nil before) ∙ is)
       (done (record { entries = es; named = before }) (spot finish l) [] refl),
 )
 all-spelled all before (m.enum_of w xs ∷ ns) es l is kn fresh fits =
@@ -239,9 +240,9 @@ all-spelled all before (m.struct_of w fs ∷ ns) es l is kn fresh fits =
     let ih = all-spelled all (before ++ m.struct_of w fs ∷ []) ns (es ++ entry_for (length before) (m.struct_of w fs) ∷ []) one.0 is2 (knows-push all before es (m.struct_of w fs) ns is fits.0.0 new kn) (fresh-push before es (m.struct_of w fs) fresh) fits.2 in
     (ih.0, ih.1, more _ _ _ a_struct (spot (word (codes "struct")) l) _ _ _ refl one.1 ih.2)
 
-nothing_known : (all : List m.Named) → Knows all [] []
+nothing_known : (all : List m.MeantNamed) → Knows all [] []
 nothing_known all n x e = absurd cc
 
 -- The tokens of a proper definition spell it.
-pub written-spelled : (ns : List m.Named) → IsProper ns → (es : List m.Entry) × (end : Toks) × Spells whole (record { entries = es; named = ns }) (printed_tokens ns) end
+pub written-spelled : (ns : List m.MeantNamed) → IsProper ns → (es : List m.Entry) × (end : Toks) × Spells whole (record { entries = es; named = ns }) (printed_tokens ns) end
 written-spelled ns fits = all-spelled ns [] ns [] 1 refl (nothing_known ns) (λ w e. tt) fits

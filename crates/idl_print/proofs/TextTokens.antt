@@ -1,11 +1,12 @@
 -- The tokens of a printed text, line by line.
+pub use Rattle.idl_profile.proofs.Each.{Each}
 use Rattle.std.proofs.Common.{append_assoc, ◌≡◌, ℕ, ◌+◌, true, false, List, [], ◌∷◌, ◌++◌, Some, refl, ap, ◌∙◌}
 use Rattle.std.specs.Prelude.{codes}
 use Rattle.std.specs.List.{flat_map}
 use Rattle.std.specs.Fmt.{signed_decimal}
 use Rattle.idl_tokens.specs.Tokens.{word, number, mark, spot, Toks, tokens_behind, tokens}
-use Rattle.idl_profile.specs.declared.kinds.Scalar.{Scalar}
-use Rattle.idl_profile.specs.declared.kinds.Scalar.TheVariants as k
+use Rattle.idl_profile.specs.declared.kinds.BaseType.{BaseType}
+use Rattle.idl_profile.specs.declared.kinds.BaseType.TheVariants as k
 use Rattle.idl_profile.specs.declared.kinds.Need.{Need}
 use Rattle.idl_profile.specs.declared.kinds.Need.TheVariants.{Plain, Required, Optional}
 use Rattle.idl_profile.specs.Meaning as m
@@ -19,7 +20,7 @@ use Rattle.idl_print.proofs.Numbers.{Is64, number-tokens}
 abbrev pub after : ℕ → List ℕ → Toks
 after l text = tokens_behind 0 l text
 
-pub scalar-word : (s : Scalar) → IsWord (scalar_text s)
+pub scalar-word : (s : BaseType) → IsWord (scalar_text s)
 scalar-word k.Flag = (refl, (refl, (refl, (refl, tt))))
 scalar-word k.I8 = (refl, (refl, tt))
 scalar-word k.I16 = (refl, (refl, (refl, tt)))
@@ -29,7 +30,7 @@ scalar-word k.Text = (refl, (refl, (refl, (refl, (refl, (refl, tt))))))
 scalar-word k.Bytes = (refl, (refl, (refl, (refl, (refl, (refl, tt))))))
 
 -- the names in a type are words
-abbrev pub TypeWords : List m.Named → m.Ty → Type 0
+abbrev pub TypeWords : List m.MeantNamed → m.Ty → Type 0
 TypeWords ns (m.scalar s) = Unit {0}
 TypeWords ns (m.enum n) = IsWord (name_at ns n)
 TypeWords ns (m.struct n) = IsWord (name_at ns n)
@@ -43,7 +44,7 @@ one_inside v w rest = append_assoc v w rest
 two_inside : (v w rest : List ℕ) → (codes "map<" ++ v ++ codes "," ++ w ++ codes ">") ++ rest ≡ codes "map<" ++ (v ++ 44 ∷ (w ++ 62 ∷ rest))
 two_inside v w rest = simp append_assoc
 
-pub type-tokens : (ns : List m.Named) (t : m.Ty) (rest : List ℕ) (l : ℕ) → TypeWords ns t → Apart rest → after l (type_text ns t ++ rest) ≡ type_tokens ns l t (after l rest)
+pub type-tokens : (ns : List m.MeantNamed) (t : m.Ty) (rest : List ℕ) (l : ℕ) → TypeWords ns t → Apart rest → after l (type_text ns t ++ rest) ≡ type_tokens ns l t (after l rest)
 type-tokens ns (m.scalar s) rest l h a = word-tokens (scalar_text s) rest l (scalar-word s) a
 type-tokens ns (m.enum n) rest l h a = word-tokens (name_at ns n) rest l h a
 type-tokens ns (m.struct n) rest l h a = word-tokens (name_at ns n) rest l h a
@@ -91,13 +92,13 @@ apart-default t (types.int_default z) rest a = refl
 apart-default t (types.text_default x) rest a = refl
 apart-default t types.empty_default rest a = refl
 
-abbrev pub FieldText : List m.Named → m.Field → Type 0
+abbrev pub FieldText : List m.MeantNamed → m.MeantField → Type 0
 FieldText ns f = Is64 f.id × TypeWords ns f.type × IsWord f.name × DefaultText f.default
 
 field_parts : (i n t w d rest : List ℕ) → (codes "  " ++ i ++ codes ": " ++ n ++ t ++ codes " " ++ w ++ d ++ codes ";" ++ newline) ++ rest ≡ codes "  " ++ (i ++ 58 ∷ 32 ∷ (n ++ (t ++ 32 ∷ (w ++ (d ++ 59 ∷ 10 ∷ rest)))))
 field_parts i n t w d rest = simp append_assoc
 
-pub field-tokens : (ns : List m.Named) (f : m.Field) (rest : List ℕ) (l : ℕ) → FieldText ns f → after l (field_text ns f ++ rest) ≡ field_tokens ns l f (after (l + 1) rest)
+pub field-tokens : (ns : List m.MeantNamed) (f : m.MeantField) (rest : List ℕ) (l : ℕ) → FieldText ns f → after l (field_text ns f ++ rest) ≡ field_tokens ns l f (after (l + 1) rest)
 field-tokens ns f rest l h =
     ap (after l) (field_parts (signed_decimal f.id) (need_text f.need) (type_text ns f.type) f.name (default_text f.type f.default) rest)
     ∙ number-tokens f.id (58 ∷ 32 ∷ (need_text f.need ++ (type_text ns f.type ++ 32 ∷ (f.name ++ (default_text f.type f.default ++ 59 ∷ 10 ∷ rest))))) l h.0 refl
@@ -120,16 +121,11 @@ member-tokens x rest l h =
     ap (after l) (member_parts x.name (signed_decimal x.number) rest) ∙ word-tokens x.name (32 ∷ 61 ∷ 32 ∷ (signed_decimal x.number ++ 44 ∷ 10 ∷ rest)) l h.0 refl
     ∙ ap (λ (z : Toks). spot (word x.name) l ∷ spot (mark 61) l ∷ z) (number-tokens x.number (44 ∷ 10 ∷ rest) l h.1 refl)
 
--- each of a list
-abbrev pub Each : {A : Type 0} → (A → Type 0) → List A → Type 0
-Each P [] = Unit {0}
-Each P (x ∷ xs) = P x × Each P xs
-
 -- what stands from a line on, behind a printed text
 abbrev pub From : List ℕ → (ℕ → Toks) → Type 0
 From text rest = (l : ℕ) → after l text ≡ rest l
 
-fields-tokens : (ns : List m.Named) (fs : List m.Field) (text : List ℕ) (rest : ℕ → Toks) → Each (FieldText ns) fs → From text rest → From (flat_map (field_text ns) fs ++ text) (λ l. fields_tokens ns l fs rest)
+fields-tokens : (ns : List m.MeantNamed) (fs : List m.MeantField) (text : List ℕ) (rest : ℕ → Toks) → Each (FieldText ns) fs → From text rest → From (flat_map (field_text ns) fs ++ text) (λ l. fields_tokens ns l fs rest)
 fields-tokens ns [] text rest h e l = e l
 fields-tokens ns (f ∷ fs) text rest h e l =
     ap (after l) (append_assoc (field_text ns f) (flat_map (field_text ns) fs) text) ∙ field-tokens ns f (flat_map (field_text ns) fs ++ text) l h.0
@@ -141,7 +137,7 @@ members-tokens (x ∷ xs) text rest h e l =
     ap (after l) (append_assoc (member_text x) (flat_map member_text xs) text) ∙ member-tokens x (flat_map member_text xs ++ text) l h.0
     ∙ ap (member_tokens l x) (members-tokens xs text rest h.1 e (l + 1))
 
-abbrev pub NamedText : List m.Named → m.Named → Type 0
+abbrev pub NamedText : List m.MeantNamed → m.MeantNamed → Type 0
 NamedText ns (m.enum_of w xs) = IsWord w × Each MemberText xs
 NamedText ns (m.struct_of w fs) = IsWord w × Each (FieldText ns) fs
 
@@ -151,7 +147,7 @@ closing text rest e l = ap (λ (z : Toks). spot (mark 125) l ∷ z) (e (l + 1))
 parts : (w x text : List ℕ) → (w ++ codes " {" ++ newline ++ x ++ codes "}" ++ newline) ++ text ≡ w ++ 32 ∷ 123 ∷ 10 ∷ (x ++ 125 ∷ 10 ∷ text)
 parts w x text = simp append_assoc
 
-pub named-tokens : (ns : List m.Named) (n : m.Named) (text : List ℕ) (rest : ℕ → Toks) → NamedText ns n → From text rest → From (named_text ns n ++ text) (λ l. named_tokens ns l n rest)
+pub named-tokens : (ns : List m.MeantNamed) (n : m.MeantNamed) (text : List ℕ) (rest : ℕ → Toks) → NamedText ns n → From text rest → From (named_text ns n ++ text) (λ l. named_tokens ns l n rest)
 named-tokens ns (m.enum_of w xs) text rest h e l =
     ap (λ (z : Toks). spot (word (codes "enum")) l ∷ z)
     (ap (after l) (parts w (flat_map member_text xs) text) ∙ word-tokens w (32 ∷ 123 ∷ 10 ∷ (flat_map member_text xs ++ 125 ∷ 10 ∷ text)) l h.0 refl
@@ -161,10 +157,10 @@ named-tokens ns (m.struct_of w fs) text rest h e l =
     (ap (after l) (parts w (flat_map (field_text ns) fs) text) ∙ word-tokens w (32 ∷ 123 ∷ 10 ∷ (flat_map (field_text ns) fs ++ 125 ∷ 10 ∷ text)) l h.0 refl
     ∙ ap (λ (z : Toks). spot (word w) l ∷ spot (mark 123) l ∷ z) (fields-tokens ns fs (125 ∷ 10 ∷ text) (closed rest) h.1 (closing text rest e) (l + 1)))
 
-all-tokens : (ns more : List m.Named) → Each (NamedText ns) more → From (flat_map (named_text ns) more) (λ l. all_tokens ns l more)
+all-tokens : (ns more : List m.MeantNamed) → Each (NamedText ns) more → From (flat_map (named_text ns) more) (λ l. all_tokens ns l more)
 all-tokens ns [] h l = refl
 all-tokens ns (n ∷ more) h l = named-tokens ns n (flat_map (named_text ns) more) (λ k. all_tokens ns k more) h.0 (all-tokens ns more h.1) l
 
 -- The tokens of a printed text.
-pub tokens-written : (ns : List m.Named) → Each (NamedText ns) ns → tokens (written ns) ≡ printed_tokens ns
+pub tokens-written : (ns : List m.MeantNamed) → Each (NamedText ns) ns → tokens (written ns) ≡ printed_tokens ns
 tokens-written ns h = all-tokens ns ns h 1

@@ -10,8 +10,8 @@ use Rattle.std.proofs.lemmas.Fmt.{IsAscii-signed}
 use Rattle.std.proofs.lemmas.Bool.{and_parts, ltb-true}
 use Rattle.idl_tokens.specs.Characters.{is_word_character}
 use Rattle.idl_tokens.proofs.Cuts.{start-small, character-small}
-use Rattle.idl_profile.specs.declared.kinds.Scalar.{Scalar}
-use Rattle.idl_profile.specs.declared.kinds.Scalar.TheVariants as k
+use Rattle.idl_profile.specs.declared.kinds.BaseType.{BaseType}
+use Rattle.idl_profile.specs.declared.kinds.BaseType.TheVariants as k
 use Rattle.idl_profile.specs.declared.kinds.Need.{Need}
 use Rattle.idl_profile.specs.declared.kinds.Need.TheVariants.{Plain, Required, Optional}
 use Rattle.idl_profile.specs.Meaning as m
@@ -51,7 +51,7 @@ number-utf8 : (z : ℤ) → Is64 z → Utf8 (signed_decimal z)
 number-utf8 (pos n) h = record { is = IsUtf8-from_ascii (signed_decimal (pos n)) (IsAscii-signed (pos n) h) }
 number-utf8 (negsuc n) h = record { is = IsUtf8-from_ascii (signed_decimal (negsuc n)) (IsAscii-signed (negsuc n) h) }
 
-scalar-utf8 : (s : Scalar) → Utf8 (scalar_text s)
+scalar-utf8 : (s : BaseType) → Utf8 (scalar_text s)
 scalar-utf8 k.Flag = ascii (codes "bool") refl
 scalar-utf8 k.I8 = ascii (codes "i8") refl
 scalar-utf8 k.I16 = ascii (codes "i16") refl
@@ -60,7 +60,7 @@ scalar-utf8 k.I64 = ascii (codes "i64") refl
 scalar-utf8 k.Text = ascii (codes "string") refl
 scalar-utf8 k.Bytes = ascii (codes "binary") refl
 
-type-utf8 : (ns : List m.Named) (t : m.Ty) → TypeWords ns t → Utf8 (type_text ns t)
+type-utf8 : (ns : List m.MeantNamed) (t : m.Ty) → TypeWords ns t → Utf8 (type_text ns t)
 type-utf8 ns (m.scalar s) h = scalar-utf8 s
 type-utf8 ns (m.enum n) h = word-utf8 (name_at ns n) h
 type-utf8 ns (m.struct n) h = word-utf8 (name_at ns n) h
@@ -99,7 +99,7 @@ default-utf8 t (types.int_default z) h = glue (ascii (codes " = ") refl) (number
 default-utf8 t (types.text_default x) h = glue (ascii (codes " = ") refl) (literal-utf8 x h)
 default-utf8 t types.empty_default h = glue (ascii (codes " = ") refl) (empty-utf8 t)
 
-field-utf8 : (ns : List m.Named) (f : m.Field) → FieldText ns f → Utf8 (field_text ns f)
+field-utf8 : (ns : List m.MeantNamed) (f : m.MeantField) → FieldText ns f → Utf8 (field_text ns f)
 field-utf8 ns f h =
     glue (glue (glue (glue (glue (glue (glue (glue (glue (ascii (codes "  ") refl) (number-utf8 f.id h.0)) (ascii (codes ": ") refl)) (need-utf8 f.need)) (type-utf8 ns f.type h.1)) (ascii (codes " ") refl)) (word-utf8 f.name h.2)) (default-utf8 f.type f.default h.3)) (ascii (codes ";") refl)) (ascii newline refl)
 
@@ -113,9 +113,9 @@ each-utf8 f P g (x ∷ xs) h = glue (g x h.0) (each-utf8 f P g xs h.1)
 body-utf8 : {front : List ℕ} → Utf8 front → (w : List ℕ) → IsWord w → {body : List ℕ} → Utf8 body → Utf8 (front ++ w ++ codes " {" ++ newline ++ body ++ codes "}" ++ newline)
 body-utf8 f w h g = glue (glue (glue (glue (glue (glue (f) (word-utf8 w h)) (ascii (codes " {") refl)) (ascii newline refl)) (g)) (ascii (codes "}") refl)) (ascii newline refl)
 
-named-utf8 : (ns : List m.Named) (n : m.Named) → NamedText ns n → Utf8 (named_text ns n)
+named-utf8 : (ns : List m.MeantNamed) (n : m.MeantNamed) → NamedText ns n → Utf8 (named_text ns n)
 named-utf8 ns (m.enum_of w xs) h = body-utf8 (ascii (codes "enum ") refl) w h.0 (each-utf8 member_text MemberText member-utf8 xs h.1)
 named-utf8 ns (m.struct_of w fs) h = body-utf8 (ascii (codes "struct ") refl) w h.0 (each-utf8 (field_text ns) (FieldText ns) (field-utf8 ns) fs h.1)
 
-pub all-utf8 : (all ns : List m.Named) → Each (NamedText all) ns → Utf8 (flat_map (named_text all) ns)
+pub all-utf8 : (all ns : List m.MeantNamed) → Each (NamedText all) ns → Utf8 (flat_map (named_text all) ns)
 all-utf8 all ns h = each-utf8 (named_text all) (NamedText all) (named-utf8 all) ns h

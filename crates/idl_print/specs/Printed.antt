@@ -4,7 +4,7 @@ use Rattle.std.specs.List.{list_any, flat_map}
 use Rattle.std.specs.Fmt.{signed_decimal}
 use Rattle.idl_profile.specs.declared.kinds.Need.{Need}
 use Rattle.idl_profile.specs.declared.kinds.Need.TheVariants.{Plain, Required, Optional}
-use Rattle.idl_profile.specs.Types.{Scalar, flag, i8, i16, i32, i64, Default, without, flag_default, int_default, text_default, empty_default, Member, TypeTree, scalar, text, bytes, list_of, set_of, map_of, named, Named, enum_of, struct_of, Field, field_list}
+use Rattle.idl_profile.specs.Types.{Scalar, flag, i8, i16, i32, i64, Default, without, flag_default, int_default, text_default, empty_default, Member, TypeTree, scalar, text, bytes, list_of, set_of, map_of, named, Named, enum_of, struct_of, DefField, field_list}
 
 abbrev pub newline : List ℕ
 newline = 10 ∷ []
@@ -62,7 +62,7 @@ default_text t (text_default x) = codes " = " ++ literal_text x
 default_text t empty_default = codes " = " ++ empty_text t
 
 -- the line of a field
-abbrev pub field_text : Field → List ℕ
+abbrev pub field_text : DefField → List ℕ
 field_text f = codes "  " ++ signed_decimal f.id ++ codes ": " ++ need_text f.need ++ type_text f.type ++ codes " " ++ f.name ++ default_text f.type f.default ++ codes ";" ++ newline
 
 -- the line of a member

@@ -4,6 +4,14 @@ use idl_parse::parse;
 use std::test::Fail;
 
 #[test]
+fn a_definition_is_printed(rt: HostRuntime) -> Result<(), Fail> {
+    let def = parse(rt.alloc(), b" struct P{1:i32 x,2:i32 y}")?;
+    let text = print(rt.alloc(), &def)?;
+    assert_eq!(rt; text.as_str(), "struct P {\n  1: i32 x;\n  2: i32 y;\n}\n");
+    Ok(())
+}
+
+#[test]
 fn texts_are_printed(rt: HostRuntime) -> Result<(), Fail> {
     let alloc = rt.alloc();
     let rows = [

@@ -1,14 +1,17 @@
 //! The text of defaults, fields and members.
 ghost use Rattle.std.specs.Prelude.{◌≡◌, ◌++◌, ◌∷◌, [], OnOk, ℕ, List, codes, string_bytes};
 ghost use Rattle.std.specs.Fmt.{signed_decimal};
-ghost use Rattle.idl_fields.specs.View.{nameds_of, type_of, default_of, field_of, fields_of, member_of};
+ghost use Rattle.idl_profile.specs.Meaning.{Ty};
+ghost use Rattle.idl_fields.specs.Nodes.{node_type};
+ghost use Rattle.idl_fields.specs.View.{types_in, nameds_of, default_of, field_of, fields_of, member_of};
 ghost use Rattle.idl_print.specs.Printed.{need_text as need_text_of, has_quote as has_quote_of, quote as quote_of, member_text};
-ghost use Rattle.idl_print.specs.Written.{empty_text as empty_text_of, default_text, field_text};
+ghost use Rattle.idl_print.specs.Written.{empty_text as empty_text_of, default_text, declared_text, field_text};
 
 use crate::types::{push_number, push_type};
-use idl_fields::draft::{Default, Expr, Field, Member, Named};
+use base_lists::text_at;
+use idl_fields::TypeNodes;
+use idl_fields::draft::{Default, DraftField, DraftNamed, Member, TypeNode};
 use idl_profile::Need;
-use idl_tokens::text_at;
 use std::alloc::AllocError;
 use std::string::String;
 
@@ -35,16 +38,16 @@ fn quote(literal: &str) -> &'static str
     if has_quote(literal) { "'" } else { "\"" }
 }
 
-fn empty_text(ty: &Expr) -> &'static str
-    ensures { result.now ≡ empty_text_of (type_of ty.now) }
+fn empty_text(node: TypeNode) -> &'static str
+    ensures { (types : List Ty) → result.now ≡ empty_text_of (node_type types node) }
 {
-    match ty {
-        Expr::List(_) => "[]",
-        Expr::Set(_) => "[]",
-        Expr::Scalar(_) => "{}",
-        Expr::Enum(_) => "{}",
-        Expr::Struct(_) => "{}",
-        Expr::Map(_, _) => "{}",
+    match node {
+        TypeNode::List(_) => "[]",
+        TypeNode::Set(_) => "[]",
+        TypeNode::Base(_) => "{}",
+        TypeNode::Enum(_) => "{}",
+        TypeNode::Struct(_) => "{}",
+        TypeNode::Map(_, _) => "{}",
     }
 }
 
@@ -52,10 +55,10 @@ fn empty_text(ty: &Expr) -> &'static str
 fn push_default(
     out: &mut String,
     text: &str,
-    ty: &Expr,
+    node: TypeNode,
     default: &Default,
 ) -> Result<(), AllocError>
-    ensures { OnOk result (string_bytes out.new ≡ string_bytes out.old ++ default_text (type_of ty.now) (default_of text.now default.now)) }
+    ensures { (types : List Ty) → OnOk result (string_bytes out.new ≡ string_bytes out.old ++ default_text (node_type types node) (default_of text.now default.now)) }
 {
     match default {
         Default::Without => Ok(()),
@@ -75,13 +78,13 @@ fn push_default(
         }
         Default::Empty => {
             out.push_str(" = ")?;
-            out.push_str(empty_text(ty))
+            out.push_str(empty_text(node))
         }
     }
 }
 
 // Writes what stands before a field's type.
-fn push_field_start(out: &mut String, field: &Field) -> Result<(), AllocError>
+fn push_field_start(out: &mut String, field: &DraftField) -> Result<(), AllocError>
     ensures { OnOk result (string_bytes out.new ≡ string_bytes out.old ++ (codes "  " ++ signed_decimal field.now.id.id ++ codes ": " ++ need_text_of field.now.need)) }
 {
     out.push_str("  ")?;
@@ -90,20 +93,34 @@ fn push_field_start(out: &mut String, field: &Field) -> Result<(), AllocError>
     out.push_str(need_text(field.need))
 }
 
+// Writes what stands before a field's default.
+fn push_declared(
+    out: &mut String,
+    text: &str,
+    named: &[DraftNamed],
+    types: &TypeNodes,
+    field: &DraftField,
+) -> Result<(), AllocError>
+    ensures { OnOk result (string_bytes out.new ≡ string_bytes out.old ++ declared_text (nameds_of text.now (types_in types.now) named.now) (field_of text.now (types_in types.now) field.now)) }
+{
+    push_field_start(out, field)?;
+    push_type(out, text, named, types, field.ty)?;
+    out.push_str(" ")?;
+    out.push_str(text_at(text, field.name))
+}
+
 /// Writes the line of a field.
 pub fn push_field(
     out: &mut String,
     text: &str,
-    named: &[Named],
-    field: &Field,
+    named: &[DraftNamed],
+    types: &TypeNodes,
+    field: &DraftField,
 ) -> Result<(), AllocError>
-    ensures { OnOk result (string_bytes out.new ≡ string_bytes out.old ++ field_text (nameds_of text.now named.now) (field_of text.now field.now)) }
+    ensures { OnOk result (string_bytes out.new ≡ string_bytes out.old ++ field_text (nameds_of text.now (types_in types.now) named.now) (field_of text.now (types_in types.now) field.now)) }
 {
-    push_field_start(out, field)?;
-    push_type(out, text, named, &field.ty)?;
-    out.push_str(" ")?;
-    out.push_str(text_at(text, field.name))?;
-    push_default(out, text, &field.ty, &field.default)?;
+    push_declared(out, text, named, types, field)?;
+    push_default(out, text, field.ty, &field.default)?;
     out.push_str(";\n")
 }
 

@@ -1,18 +1,19 @@
 -- A text has one answer.
 use Rattle.std.proofs.Common.{◌≡◌, Bool, true, false, Result, Ok, Err, refl, sym, ap, ◌∙◌}
-use Rattle.idl_grammar.specs.declared.fault.Stop.{Stop}
+use Rattle.idl_grammar.specs.declared.fault.LineFault.{LineFault}
 use Rattle.idl_tokens.specs.Tokens.{Toks}
 use Rattle.idl_grammar.specs.Grammar.{Spells, Faulty}
 use Rattle.idl_grammar.specs.Run.{run}
 use Rattle.idl_profile.specs.Meaning as m
 use Rattle.idl_profile.specs.Text.{whole}
 use Rattle.idl_profile.specs.DefText.{has_struct, Answer, means, fault, no_root, Causes, rooted, answer}
-use Rattle.idl_grammar.proofs.Exact.{ok_is, spelled, again, blamed, stops}
+use Rattle.exact_reading.proofs.Items.{ok_is}
+use Rattle.idl_grammar.proofs.Exact.{spelled, again, blamed, stops}
 
 same_scope : (ts : Toks) (x y : m.Scope) (r s : Toks) → Spells whole x ts r → Spells whole y ts s → x ≡ y
 same_scope ts x y r s p q = (ok_is x y r s (sym (again whole ts x r p) ∙ again whole ts y s q)).0
 
-not_both : (ts : Toks) (x : m.Scope) (r : Toks) (e : Stop) → Spells whole x ts r → Faulty whole ts e → ⊥
+not_both : (ts : Toks) (x : m.Scope) (r : Toks) (e : LineFault) → Spells whole x ts r → Faulty whole ts e → ⊥
 not_both ts x r e p q = let a = again whole ts x r p in let b = stops whole ts e q in cc
 
 differ : (x y : m.Scope) → x ≡ y → has_struct x.named ≡ true → has_struct y.named ≡ false → ⊥
@@ -33,7 +34,7 @@ caused : (ts : Toks) (scope : m.Scope) (rest : Toks) (b : Bool) → Spells whole
 caused ts scope rest true p e = record { scope = scope; rest = rest; spells = p; means = refl; root = e }
 caused ts scope rest false p e = record { scope = scope; rest = rest; spells = p; root = e }
 
-by_read : (ts : Toks) (r : Result (m.Scope × Toks) Stop) → run whole ts ≡ r → Causes ts (answer r)
+by_read : (ts : Toks) (r : Result (m.Scope × Toks) LineFault) → run whole ts ≡ r → Causes ts (answer r)
 by_read ts (Ok p) e = caused ts p.0 p.1 (has_struct p.0.named) (spelled whole ts p.0 p.1 e) refl
 by_read ts (Err d) e = blamed whole ts d e
 

@@ -1,23 +1,21 @@
 -- What each token means at its place, or what it has against it: of several faults the first in their order.
-use Rattle.std.specs.Prelude.{ℕ, ◌-◌, ◌^◌, ℤ, pos, negsuc, ◌+ℤ◌, int_le, int_lt, Bool, true, false, if◌then◌else◌, nat_lt, ◌==◌, ◌&&◌, ◌||◌, not, List, [], ◌∷◌, ◌++◌, Option, Some, None, is_some, Result, Ok, Err, codes, map, slice_get}
+use Rattle.std.specs.Prelude.{ℕ, ℤ, pos, negsuc, ◌+ℤ◌, int_le, int_lt, Bool, true, false, if◌then◌else◌, nat_lt, ◌==◌, ◌&&◌, ◌||◌, not, List, [], ◌∷◌, ◌++◌, Option, Some, None, is_some, Result, Ok, Err, codes, map, slice_get}
 use Rattle.std.specs.List.{list_any}
 use Rattle.std.specs.Ordering.{int_eq}
 use Rattle.std.specs.Str.{bytes_eq}
 use Rattle.idl_grammar.specs.declared.fault.Fault.{Fault}
 use Rattle.idl_grammar.specs.declared.fault.Fault.TheVariants.{Syntax, Unsupported, UnknownType, RepeatedName, RepeatedId, BadId, BadDefault, KeyType, TooDeep, TooManyNodes, StructTooWide}
-use Rattle.idl_profile.specs.declared.kinds.Scalar.{Scalar}
-use Rattle.idl_profile.specs.declared.kinds.Scalar.TheVariants as k
+use Rattle.idl_profile.specs.declared.kinds.BaseType.{BaseType}
+use Rattle.idl_profile.specs.declared.kinds.BaseType.TheVariants as k
 use Rattle.idl_profile.specs.declared.kinds.Need.{Need}
 use Rattle.idl_profile.specs.declared.kinds.Need.TheVariants.{Required, Optional}
+use Rattle.name_index.specs.Names.{is_among}
 use Rattle.idl_tokens.specs.Tokens.{Tok, word, number, literal, mark, finish}
 use Rattle.idl_grammar.specs.Grammar.{Turn, leave, enter, wrong}
 use Rattle.idl_profile.specs.Meaning as m
 use Rattle.idl_profile.specs.Types as types
 use Rattle.idl_profile.specs.Types.{TypeTree}
 use Rattle.idl_profile.specs.Measures.{trees, named_tree, depth, nodes, bits, widest}
-
-abbrev pub one_of : List (List ℕ) → List ℕ → Bool
-one_of ws w = list_any (λ x. bytes_eq x w) ws
 
 abbrev pub keywords : List (List ℕ)
 keywords =
@@ -27,7 +25,7 @@ keywords =
 
 -- a word that is no keyword and has no dot
 unfoldable pub is_name : List ℕ → Bool
-is_name w = not (one_of keywords w) && not (list_any (λ b. b == 46) w)
+is_name w = not (is_among keywords w) && not (list_any (λ b. b == 46) w)
 
 abbrev pub Judge : Type 0 → Type 0
 Judge A = Tok → Result A Fault
@@ -70,7 +68,7 @@ a_number _ = Err Syntax
 -- ---- names
 
 abbrev pub new_name : List (List ℕ) → Judge (List ℕ)
-new_name names (word w) = if is_name w then (if one_of names w then Err RepeatedName else Ok w) else Err Syntax
+new_name names (word w) = if is_name w then (if is_among names w then Err RepeatedName else Ok w) else Err Syntax
 new_name names _ = Err Syntax
 
 -- ---- headers and annotations
@@ -95,7 +93,7 @@ abbrev pub refused_notes : List (List ℕ)
 refused_notes = codes "cpp.type" ∷ codes "cpp2.type" ∷ codes "cpp.template" ∷ codes "cpp2.template" ∷ []
 
 abbrev pub a_note : Unit {0} → Tok → Tok → Turn (Unit {0})
-a_note _ (word w) after = if one_of refused_notes w then wrong Unsupported else enter yes
+a_note _ (word w) after = if is_among refused_notes w then wrong Unsupported else enter yes
 a_note _ t after = if is_mark 41 t then leave else wrong Syntax
 
 -- ---- types
@@ -112,7 +110,7 @@ is_key (m.scalar s) = true
 is_key (m.enum n) = true
 is_key _ = false
 
-unfoldable pub scalar_of : List ℕ → Option Scalar
+unfoldable pub scalar_of : List ℕ → Option BaseType
 scalar_of w =
     if bytes_eq w (codes "bool") then Some k.Flag
     else (if bytes_eq w (codes "byte") then Some k.I8
@@ -140,7 +138,7 @@ abbrev pub a_container : List m.Entry → Bool → Bool → List ℕ → Option 
 a_container entries key room w None = a_named_type entries key w
 a_container entries key room w (Some h) = if key then Err KeyType else (if room then Ok h else Err TooDeep)
 
-abbrev pub a_scalar : List m.Entry → Bool → Bool → List ℕ → Option Scalar → Result Head Fault
+abbrev pub a_scalar : List m.Entry → Bool → Bool → List ℕ → Option BaseType → Result Head Fault
 a_scalar entries key room w (Some s) = Ok (plain (m.scalar s))
 a_scalar entries key room w None = a_container entries key room w (container_of w)
 
@@ -160,13 +158,13 @@ an_open t = if is_word (codes "cpp_type") t then Err Unsupported else a_mark 60 
 
 -- ---- fields
 
-abbrev pub ids : List m.Field → List ℤ
+abbrev pub ids : List m.MeantField → List ℤ
 ids fs = map (λ f. f.id) fs
 
-abbrev pub field_names : List m.Field → List (List ℕ)
+abbrev pub field_names : List m.MeantField → List (List ℕ)
 field_names fs = map (λ f. f.name) fs
 
-abbrev pub an_id : List m.Field → ℤ → Result ℤ Fault
+abbrev pub an_id : List m.MeantField → ℤ → Result ℤ Fault
 an_id fs z =
     if list_any (λ i. int_eq i z) (ids fs) then Err RepeatedId
     else (if int_le (pos 1) z && int_le z (pos 32767) then Ok z else Err BadId)
@@ -176,7 +174,7 @@ entered (Ok b) = enter b
 entered (Err f) = wrong f
 
 -- the number of a field, or what ends the fields
-abbrev pub a_field : List m.Field → Tok → Tok → Turn ℤ
+abbrev pub a_field : List m.MeantField → Tok → Tok → Turn ℤ
 a_field fs (number (Some z)) after = entered (an_id fs z)
 a_field fs (number None) after = wrong Unsupported
 a_field fs t after = if is_mark 125 t then leave else (if is_mark 64 t then wrong Unsupported else wrong Syntax)
@@ -191,10 +189,10 @@ measured t =
     else (if nat_lt 4096 (nodes t) then Err TooManyNodes
     else (if nat_lt 32767 (bits t) || nat_lt 32767 (widest t) then Err StructTooWide else Ok yes))
 
-abbrev pub measured_struct : List m.Named → List m.Field → Result (Unit {0}) Fault
+abbrev pub measured_struct : List m.MeantNamed → List m.MeantField → Result (Unit {0}) Fault
 measured_struct named fs = measured (named_tree (trees named) (m.struct_of [] fs))
 
-abbrev pub a_struct_end : List m.Named → List m.Field → Judge (Unit {0})
+abbrev pub a_struct_end : List m.MeantNamed → List m.MeantField → Judge (Unit {0})
 a_struct_end named fs t = if is_mark 125 t then measured_struct named fs else Err Syntax
 
 -- ---- defaults
@@ -204,26 +202,35 @@ pub data Start : Type 0 where
   complete : types.Default → Start
   closed_by : ℕ → Start
 
-abbrev pub fits_int : ℕ → ℤ → Bool
-fits_int n z = int_le (negsuc (2 ^ n - 1)) z && int_lt z (pos (2 ^ n))
-
 abbrev pub an_int : ℤ → ℤ → ℤ → Result Start Fault
 an_int low high z = if int_le low z && int_le z high then Ok (complete (types.int_default z)) else Err BadDefault
 
-abbrev pub scalar_number : Scalar → ℤ → Result Start Fault
+abbrev pub least_i32 : ℤ
+least_i32 = negsuc 2147483647
+
+abbrev pub greatest_i32 : ℤ
+greatest_i32 = pos 2147483647
+
+abbrev pub is_i32 : ℤ → Bool
+is_i32 z = int_le least_i32 z && int_le z greatest_i32
+
+abbrev pub an_i32 : ℤ → Result Start Fault
+an_i32 z = an_int least_i32 greatest_i32 z
+
+abbrev pub scalar_number : BaseType → ℤ → Result Start Fault
 scalar_number k.Flag z = if int_eq z (pos 0) then Ok (complete (types.flag_default false)) else (if int_eq z (pos 1) then Ok (complete (types.flag_default true)) else Err BadDefault)
 scalar_number k.I8 z = an_int (negsuc 127) (pos 127) z
 scalar_number k.I16 z = an_int (negsuc 32767) (pos 32767) z
-scalar_number k.I32 z = an_int (negsuc 2147483647) (pos 2147483647) z
+scalar_number k.I32 z = an_i32 z
 scalar_number k.I64 z = Ok (complete (types.int_default z))
 scalar_number _ z = Err BadDefault
 
 abbrev pub number_default : m.Ty → ℤ → Result Start Fault
 number_default (m.scalar s) z = scalar_number s z
-number_default (m.enum n) z = an_int (negsuc 2147483647) (pos 2147483647) z
+number_default (m.enum n) z = an_i32 z
 number_default _ z = Err BadDefault
 
-abbrev pub scalar_literal : Scalar → List ℕ → Result Start Fault
+abbrev pub scalar_literal : BaseType → List ℕ → Result Start Fault
 scalar_literal k.Text x = Ok (complete (types.text_default x))
 scalar_literal k.Bytes x = Ok (complete (types.text_default x))
 scalar_literal _ x = Err BadDefault
@@ -237,19 +244,19 @@ abbrev pub member_number : List ℕ → List types.Member → List ℕ → Resul
 member_number name [] w = Err BadDefault
 member_number name (x ∷ xs) w = if bytes_eq x.name w || bytes_eq (name ++ 46 ∷ x.name) w then Ok (complete (types.int_default x.number)) else member_number name xs w
 
-abbrev pub enum_members : Option m.Named → List ℕ → Result Start Fault
+abbrev pub enum_members : Option m.MeantNamed → List ℕ → Result Start Fault
 enum_members (Some (m.enum_of name xs)) w = member_number name xs w
 enum_members (Some (m.struct_of name fs)) w = Err BadDefault
 enum_members None w = Err BadDefault
 
-abbrev pub enum_default : List m.Named → ℕ → List ℕ → Result Start Fault
+abbrev pub enum_default : List m.MeantNamed → ℕ → List ℕ → Result Start Fault
 enum_default named n w = enum_members (slice_get named n) w
 
-abbrev pub scalar_word : Scalar → List ℕ → Result Start Fault
+abbrev pub scalar_word : BaseType → List ℕ → Result Start Fault
 scalar_word k.Flag w = if bytes_eq w (codes "true") then Ok (complete (types.flag_default true)) else (if bytes_eq w (codes "false") then Ok (complete (types.flag_default false)) else Err BadDefault)
 scalar_word _ w = Err BadDefault
 
-abbrev pub word_default : List m.Named → m.Ty → List ℕ → Result Start Fault
+abbrev pub word_default : List m.MeantNamed → m.Ty → List ℕ → Result Start Fault
 word_default named (m.scalar s) w = scalar_word s w
 word_default named (m.enum n) w = enum_default named n w
 word_default named _ w = Err BadDefault
@@ -266,7 +273,7 @@ brace_default (m.struct n) = Ok (closed_by 125)
 brace_default _ = Err BadDefault
 
 -- the first token of a default
-abbrev pub a_default : List m.Named → m.Ty → Judge Start
+abbrev pub a_default : List m.MeantNamed → m.Ty → Judge Start
 a_default named t (number (Some z)) = number_default t z
 a_default named t (number None) = Err Unsupported
 a_default named t (literal x) = if has_backslash x then Err Unsupported else literal_default t x
@@ -292,13 +299,10 @@ abbrev pub no_members : Members
 no_members = record { list = []; coming = Some (pos 0) }
 
 abbrev pub next_number : ℤ → Option ℤ
-next_number z = if int_lt z (pos 2147483647) then Some (z +ℤ pos 1) else None
+next_number z = if int_lt z greatest_i32 then Some (z +ℤ pos 1) else None
 
 abbrev pub member_names : Members → List (List ℕ)
 member_names ms = map (λ x. x.name) ms.list
-
-abbrev pub is_i32 : ℤ → Bool
-is_i32 z = fits_int 31 z
 
 -- a member's name, in view of the token after it
 abbrev pub counted : Members → Tok → Result (List ℕ) Fault → Turn (List ℕ)
@@ -331,7 +335,7 @@ no_definition = codes "union" ∷ codes "exception" ∷ codes "service" ∷ code
 
 unfoldable pub begin_of : List ℕ → Turn Begin
 begin_of w =
-    if one_of no_definition w then wrong Unsupported
+    if is_among no_definition w then wrong Unsupported
     else (if bytes_eq w (codes "namespace") then enter a_namespace
     else (if bytes_eq w (codes "cpp_include") then enter an_include
     else (if bytes_eq w (codes "typedef") then enter a_typedef

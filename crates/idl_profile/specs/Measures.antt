@@ -1,15 +1,15 @@
 -- The finite tree of a type, and its measures.
 use Rattle.std.specs.Prelude.{ℕ, zero, suc, ◌+◌, max, List, [], ◌∷◌, ◌++◌}
 use Rattle.std.specs.List.{fold}
-use Rattle.idl_profile.specs.declared.kinds.Scalar.{Scalar}
-use Rattle.idl_profile.specs.declared.kinds.Scalar.TheVariants as k
+use Rattle.idl_profile.specs.declared.kinds.BaseType.{BaseType}
+use Rattle.idl_profile.specs.declared.kinds.BaseType.TheVariants as k
 use Rattle.idl_profile.specs.declared.kinds.Need.TheVariants.{Plain, Required, Optional}
 use Rattle.idl_profile.specs.Types as types
 use Rattle.idl_profile.specs.Types.{TypeTree, list_of, set_of, map_of, named, Fields, no_fields, Scalar as Flat, flag, i8, i16, i32, i64}
-use Rattle.idl_profile.specs.Meaning.{Ty, scalar, enum, struct, list, set, map, Field, Named, enum_of, struct_of}
+use Rattle.idl_profile.specs.Meaning.{Ty, scalar, enum, struct, list, set, map, MeantField, MeantNamed, enum_of, struct_of}
 
 -- the type of a scalar, string or binary
-abbrev pub scalar_tree : Scalar → TypeTree
+abbrev pub scalar_tree : BaseType → TypeTree
 scalar_tree k.Flag = types.scalar types.flag
 scalar_tree k.I8 = types.scalar types.i8
 scalar_tree k.I16 = types.scalar types.i16
@@ -33,19 +33,19 @@ tree ts (list x) = list_of (tree ts x)
 tree ts (set x) = set_of (tree ts x)
 tree ts (map x y) = map_of (tree ts x) (tree ts y)
 
-abbrev pub fields : List TypeTree → List Field → Fields
+abbrev pub fields : List TypeTree → List MeantField → Fields
 fields ts [] = no_fields
 fields ts (f ∷ fs) = types.field f.id f.name f.need (tree ts f.type) f.default (fields ts fs)
 
-abbrev pub named_of : List TypeTree → Named → types.Named
+abbrev pub named_of : List TypeTree → MeantNamed → types.Named
 named_of ts (enum_of w ms) = types.enum_of w ms
 named_of ts (struct_of w fs) = types.struct_of w (fields ts fs)
 
-abbrev pub named_tree : List TypeTree → Named → TypeTree
+abbrev pub named_tree : List TypeTree → MeantNamed → TypeTree
 named_tree ts n = named (named_of ts n)
 
 -- the tree of each enum and struct, from those before it
-abbrev pub trees : List Named → List TypeTree
+abbrev pub trees : List MeantNamed → List TypeTree
 trees ns = fold (λ ts n. ts ++ named_tree ts n ∷ []) [] ns
 
 -- 1 for what has nothing inside; else 1 more than the greatest inside, an empty struct 1

@@ -1,6 +1,7 @@
 -- The grammar of definition texts, line by line.
 use Rattle.std.specs.Prelude.{ℕ, zero, suc, ℤ, int_lt, nat_lt, Bool, true, false, if◌then◌else◌, List, [], ◌∷◌, ◌++◌, length, Option, Some, None, Err}
 use Rattle.idl_grammar.specs.declared.fault.Fault.TheVariants.{TooDeep}
+use Rattle.base_lists.specs.InOrder.{insert_by, in_order}
 use Rattle.idl_profile.specs.declared.kinds.Need.{Need}
 use Rattle.idl_profile.specs.declared.kinds.Need.TheVariants.{Plain}
 use Rattle.idl_tokens.specs.Tokens.{Tok}
@@ -17,9 +18,12 @@ abbrev pub pick : {A : Type 0} → Bool → Grammar A → Grammar A → Grammar 
 pick true g h = g
 pick false g h = h
 
--- [ g ], where g begins at the tokens of the test. It is taken wherever such a token stands. No text of the grammar is lost by that, for none of them
--- has such a token behind the place of an optional part that is left out: no definition, field, member or annotation begins with a comma, a semicolon, a (
--- or an =, nor does what closes them, and no type begins with the word required or optional.
+-- [ g ], where g begins at the tokens of the test. It is taken wherever such a token stands. No text of the grammar is lost by
+-- that: the first tokens of each optional part are others than those that follow where it is left out.
+--   [Sep]                   , ;                    a word, a number, @, } or ) or the end
+--   [Ann]                   (                      the same, and , ; > = and the name of a field or typedef
+--   ["=" ..]                =                      the same as behind [Ann], but for =, and (
+--   [required | optional]   these two words        the first word of a type, which is neither
 abbrev pub optional : {A : Type 0} → (Tok → Bool) → A → Grammar A → Grammar A
 optional test x g = look (λ t. pick (test t) g (give x))
 
@@ -70,7 +74,7 @@ abbrev pub start : Start → Grammar types.Default
 start (complete d) = give d
 start (closed_by c) = token (a_default_end c) >>= λ _. give types.empty_default
 
-abbrev pub default : List m.Named → m.Ty → Grammar types.Default
+abbrev pub default : List m.MeantNamed → m.Ty → Grammar types.Default
 default named t = optional (is_mark 61) types.without (token taken >>= λ _. token (a_default named t) >>= start)
 
 abbrev pub added : {A : Type 0} → List A → A → List A
@@ -85,11 +89,11 @@ pub record Typed : Type 0 where
 abbrev pub make_typed : Need → m.Ty → List ℕ → Typed
 make_typed n t w = record { need = n; type = t; name = w }
 
-abbrev pub make_field : ℤ → Typed → types.Default → m.Field
+abbrev pub make_field : ℤ → Typed → types.Default → m.MeantField
 make_field id p d = record { id = id; need = p.need; type = p.type; name = p.name; default = d }
 
 -- ":" [required | optional] Type Name
-unfoldable pub typed : List m.Entry → List m.Field → Grammar Typed
+unfoldable pub typed : List m.Entry → List m.MeantField → Grammar Typed
 typed entries fs =
     token (a_mark 58) >>= λ _.
     look need_of >>= λ n.
@@ -98,42 +102,40 @@ typed entries fs =
     give (make_typed n t w)
 
 -- a field after its number
-unfoldable pub field : m.Scope → List m.Field → ℤ → Grammar m.Field
+unfoldable pub field : m.Scope → List m.MeantField → ℤ → Grammar m.MeantField
 field scope fs id =
     typed scope.entries fs >>= λ p.
     default scope.named p.type >>= λ d.
     closing (make_field id p d)
 
-abbrev pub one_field : m.Scope → List m.Field → ℤ → Grammar (List m.Field)
+abbrev pub one_field : m.Scope → List m.MeantField → ℤ → Grammar (List m.MeantField)
 one_field scope fs id = field scope fs id >>= λ f. give (added fs f)
 
 -- { Field }, after these
-abbrev pub fields : m.Scope → List m.Field → Grammar (List m.Field)
+abbrev pub fields : m.Scope → List m.MeantField → Grammar (List m.MeantField)
 fields scope fs = loop a_field (one_field scope) fs
 
 -- behind the fields of lesser id
-abbrev pub insert : m.Field → List m.Field → List m.Field
-insert f [] = f ∷ []
-insert f (g ∷ gs) = if int_lt g.id f.id then g ∷ insert f gs else f ∷ g ∷ gs
+abbrev pub insert : m.MeantField → List m.MeantField → List m.MeantField
+insert f gs = insert_by int_lt (λ g. g.id) f gs
 
 -- the fields by rising id
-abbrev pub by_id : List m.Field → List m.Field
-by_id [] = []
-by_id (f ∷ fs) = insert f (by_id fs)
+abbrev pub by_id : List m.MeantField → List m.MeantField
+by_id fs = in_order int_lt (λ f. f.id) fs
 
 -- what begins with struct
-abbrev pub with_struct : m.Scope → List ℕ → List m.Field → m.Scope
+abbrev pub with_struct : m.Scope → List ℕ → List m.MeantField → m.Scope
 with_struct scope w fs = record { entries = scope.entries ++ record { name = w; type = m.struct (length scope.named) } ∷ []; named = scope.named ++ m.struct_of w fs ∷ [] }
 
 pub record Parts : Type 0 where
   pub name : List ℕ
-  pub fields : List m.Field
+  pub fields : List m.MeantField
 
-abbrev pub make_parts : List ℕ → List m.Field → Parts
+abbrev pub make_parts : List ℕ → List m.MeantField → Parts
 make_parts w fs = record { name = w; fields = fs }
 
 -- "{" { Field } "}"
-unfoldable pub struct_body : m.Scope → Grammar (List m.Field)
+unfoldable pub struct_body : m.Scope → Grammar (List m.MeantField)
 struct_body scope =
     token (a_mark 123) >>= λ _.
     fields scope [] >>= λ fs.

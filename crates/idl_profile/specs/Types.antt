@@ -1,5 +1,5 @@
 -- Types as finite trees, and definitions as lists of named enums and structs.
-use Rattle.std.specs.Prelude.{ℕ, ℤ, Bool, List, [], ◌∷◌, map}
+use Rattle.std.specs.Prelude.{ℕ, ℤ, Bool, List, [], ◌∷◌}
 use Rattle.idl_profile.specs.declared.kinds.TypeKind.{TypeKind}
 use Rattle.idl_profile.specs.declared.kinds.TypeKind.TheVariants as kinds
 use Rattle.idl_profile.specs.declared.kinds.Need.{Need}
@@ -44,19 +44,19 @@ mutual
     no_fields : Fields
     field : ℤ → List ℕ → Need → TypeTree → Default → Fields → Fields
 
-pub record Field : Type 0 where
+pub record DefField : Type 0 where
   pub id : ℤ
   pub name : List ℕ
   pub need : Need
   pub type : TypeTree
   pub default : Default
 
-abbrev pub field_list : Fields → List Field
+abbrev pub field_list : Fields → List DefField
 field_list no_fields = []
 field_list (field i n o t d fs) = record { id = i; name = n; need = o; type = t; default = d } ∷ field_list fs
 
 -- the fields of a struct by rising id; no other type has any
-abbrev pub fields_of : TypeTree → List Field
+abbrev pub fields_of : TypeTree → List DefField
 fields_of (named (struct_of n fs)) = field_list fs
 fields_of _ = []
 
@@ -91,7 +91,3 @@ last_struct before (struct_of n fs ∷ ns) = last_struct (named (struct_of n fs)
 -- the root of a definition: its last struct
 abbrev pub root_of : List Named → TypeTree
 root_of ns = last_struct (scalar flag) ns
-
--- the names of the root's fields, by rising id
-abbrev pub root_names : List Named → List (List ℕ)
-root_names ns = map (λ f. f.name) (fields_of (root_of ns))

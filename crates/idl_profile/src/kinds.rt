@@ -31,7 +31,7 @@ pub enum Need {
 
 /// A type that has a word of its own and nothing inside.
 #[derive(Clone, Copy, Debug, PartialEq, Eq)]
-pub enum Scalar {
+pub enum BaseType {
     /// A truth value.
     Flag,
     I8,

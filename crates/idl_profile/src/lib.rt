@@ -4,5 +4,8 @@
 mod kinds;
 mod laws;
 
-pub use kinds::{Need, Scalar, TypeKind};
+pub use kinds::{BaseType, Need, TypeKind};
 pub use laws::tokens_have_one_answer;
+
+#[cfg(test)]
+mod tests;

@@ -2,8 +2,7 @@
 use Rattle.std.specs.Prelude.{◌≡◌, ℕ, Bool, List, Option, length}
 use Rattle.std.specs.List.{position, list_any}
 use Rattle.std.specs.Str.{bytes_eq}
-use Rattle.std.specs.HashMap.{get_by}
-use Rattle.std.specs.String.{string_bytes}
+use Rattle.std.specs.BTreeMap.{get_by_text}
 use Rattle.name_index.specs.declared.index.NameIndex.{NameIndex}
 
 -- the place of the first name that is this one
@@ -17,4 +16,4 @@ is_among names name = list_any (λ n. bytes_eq n name) names
 -- the index has the first place of each of these names, and of no other
 pub record Indexes (index : NameIndex) (names : List (List ℕ)) : Type 0 where
   pub count : index.count ≡ length names
-  pub places : (name : List ℕ) → get_by (λ k. bytes_eq name (string_bytes k)) index.places ≡ first_place names name
+  pub places : (name : List ℕ) → get_by_text index.places name ≡ first_place names name

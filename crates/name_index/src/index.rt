@@ -4,14 +4,14 @@ ghost use Rattle.std.specs.Prelude.{◌≡◌, ◌++◌, ◌∷◌, [], ℕ, Lis
 ghost use Rattle.name_index.specs.Names.{Indexes, first_place, is_among};
 
 use std::alloc::{AllocError, Global};
-use std::collections::HashMap;
+use std::collections::BTreeMap;
 use std::string::String;
 
-/// The places of a list of names, found by hash. A name may repeat.
+/// The places of a list of names, found in an ordered map: no choice of names makes a look-up slow. A name may repeat.
 #[derive(Debug, Drop)]
 pub struct NameIndex {
     // The first place of each name.
-    places: HashMap<String, u32>,
+    places: BTreeMap<String, u32>,
     // How many names there are.
     count: u32,
 }
@@ -22,7 +22,7 @@ impl NameIndex {
         ensures { Indexes result [] }
     {
         NameIndex {
-            places: HashMap::new(alloc),
+            places: BTreeMap::new(alloc),
             count: 0,
         }
     }

@@ -1,4 +1,4 @@
-//! Names found by hash: where each of a list of names stood first.
+//! An index of names: where each of a list of names stood first.
 #![tactic(auto)]
 
 mod index;

@@ -1,10 +1,12 @@
 use Rattle.std.proofs.Common.{ap, ◌∙◌}
-use Rattle.idl_profile.specs.Measures.{fields}
+use Rattle.idl_profile.specs.Measures.{fields as fields_in, trees}
 use Rattle.idl_definitions.specs.Sizes.{struct_size}
-use Rattle.idl_fields.specs.View.{fields_of}
+use Rattle.idl_fields.specs.View.{entries_in, named_in, written_fields}
 use Rattle.idl_definitions.proofs.SizeLaws.{size-group}
 use Rattle.idl_definitions.proofs.measure.size_of_struct.Goals as goal
 
 pub returns : goal.returns
-returns c text w ts e =
-    c.struct_size.ensures ∙ ap struct_size (c.inside_of.ensures text ts e) ∙ size-group w (fields ts (fields_of text c.args.fields.now))
+returns c w =
+    let text = c.args.text.now in
+    let s = c.args.scope.now in
+    c.struct_size.ensures ∙ ap struct_size c.inside_of.ensures ∙ size-group w (fields_in (trees (named_in text s)) (written_fields text (entries_in text s) c.args.fields.now))

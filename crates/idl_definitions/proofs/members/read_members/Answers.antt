@@ -1,6 +1,6 @@
 use Rattle.std.proofs.Common.{ap, ◌∙◌}
 use Rattle.std.proofs.lemmas.Result.{err_from_is_err_and}
-use Rattle.idl_tokens.specs.Spans.{text_at}
+use Rattle.base_lists.specs.Spans.{text_at}
 use Rattle.idl_profile.specs.Judged.{a_member}
 use Rattle.idl_profile.specs.Text.{member, with_member}
 use Rattle.idl_grammar.proofs.CodeLoops.{at_wrong, at_breaks, at_more, toks_fall}

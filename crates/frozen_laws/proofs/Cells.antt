@@ -1,7 +1,7 @@
 -- Cells, and the bounds that they set.
 use Rattle.std.proofs.Common.{◌≡◌, ℕ, zero, suc, ◌+◌, ◌*◌, ◌≤◌, ◌<◌, length, arith, refl}
 use Rattle.std.proofs.Math.Nat.{mul-le-mul_left}
-use Rattle.frozen_model.specs.Trees.{Scalar, Flag, Integer, Whole, I8, I16, I32, I64, Tree, Trees, Leaf, Blob, Range, Optional, Struct, NoField, Field, greatest, leaf, blob, range, optional, struct, no_field, field}
+use Rattle.frozen_model.specs.Trees.{LeafKind, Flag, Integer, Whole, I8, I16, I32, I64, Tree, Trees, Leaf, ByteRange, ItemRange, Optional, Struct, NoField, Field, greatest, leaf, byte_range, item_range, optional, struct, no_field, field}
 use Rattle.frozen_model.specs.Values.{Value, Values, count, Of, one, bytes, items, absent, present, record_of, OfEach, none, more, OfAll, no_part, part, cells, cells_each, cells_all, inline_cells, inline_cells_all, range_cells, range_cells_each, range_cells_all}
 use Rattle.frozen_model.specs.Layouts.{Layout, Layouts, Legal, AllLegal, stride, strides}
 use Rattle.frozen_model.specs.Packing.{extent, extents, extent_all, bytes_for, distance}
@@ -35,15 +35,15 @@ whole_le I16 = omega arith
 whole_le I32 = omega arith
 whole_le I64 = omega arith
 
-greatest_le : (k : Scalar) → greatest k ≤ 64
+greatest_le : (k : LeafKind) → greatest k ≤ 64
 greatest_le Flag = omega arith
 greatest_le (Integer k) = whole_le k
 
 mutual
   pub stride_inline : (l : Layout) → Legal l → stride l ≤ 64 * inline_cells l
   stride_inline (Leaf k c) h = omega (arith, greatest_le k)
-  stride_inline (Blob t d c) h = omega arith
-  stride_inline (Range g d c l) h = omega arith
+  stride_inline (ByteRange t d c) h = omega arith
+  stride_inline (ItemRange g d c l) h = omega arith
   stride_inline (Optional w l) h = omega (arith, stride_inline l h.1)
   stride_inline (Struct ls) h = strides_inline ls h
 
@@ -82,8 +82,8 @@ whole_cells l v o h = omega (arith, stride_inline l h, extent_cells o h, cells_a
 mutual
   no_distance : (P : ℕ → Type 0) (l : Layout) → EachDistance P (no_puts l)
   no_distance P (Leaf k c) = tt
-  no_distance P (Blob t d c) = tt
-  no_distance P (Range h d c l) = (tt, no_distance P l)
+  no_distance P (ByteRange t d c) = tt
+  no_distance P (ItemRange h d c l) = (tt, no_distance P l)
   no_distance P (Optional w l) = no_distance P l
   no_distance P (Struct ls) = no_distance_among P ls
 
@@ -94,8 +94,8 @@ mutual
 mutual
   distances_join : (P : ℕ → Type 0) {l : Layout} {p q : Puts} → Beside l p → Beside l q → EachDistance P p → EachDistance P q → EachDistance P (both p q)
   distances_join P (leaf x) (leaf y) h k = tt
-  distances_join P (blob {d' = ds} x y) (blob {d' = es} z w) h k = all_join P ds es h k
-  distances_join P (range {d' = ds} x y a) (range {d' = es} z w b) h k = (all_join P ds es h.0 k.0, distances_join P a b h.1 k.1)
+  distances_join P (byte_range {d' = ds} x y) (byte_range {d' = es} z w) h k = all_join P ds es h k
+  distances_join P (item_range {d' = ds} x y a) (item_range {d' = es} z w b) h k = (all_join P ds es h.0 k.0, distances_join P a b h.1 k.1)
   distances_join P (optional x a) (optional y b) h k = distances_join P a b h k
   distances_join P (struct a) (struct b) h k = distances_join_among P a b h k
 
@@ -130,8 +130,8 @@ mutual
 mutual
   distance_map : (P Q : ℕ → Type 0) → ((d : ℕ) → P d → Q d) → (p : Puts) → EachDistance P p → EachDistance Q p
   distance_map P Q f (Leaf k xs) h = tt
-  distance_map P Q f (Blob t ds cs) h = all_map ds f h
-  distance_map P Q f (Range g ds cs p) h = (all_map ds f h.0, distance_map P Q f p h.1)
+  distance_map P Q f (ByteRange t ds cs) h = all_map ds f h
+  distance_map P Q f (ItemRange g ds cs p) h = (all_map ds f h.0, distance_map P Q f p h.1)
   distance_map P Q f (Optional ws p) h = distance_map P Q f p h
   distance_map P Q f (Struct ps) h = distance_map_among P Q f ps h
 

@@ -7,18 +7,18 @@ use Rattle.std.proofs.lemmas.Str.{is_utf8-from_IsUtf8}
 use Rattle.std.specs.List.{AllByRecursion}
 use Rattle.frozen_model.specs.Bits.{bits, bits_of, field}
 use Rattle.frozen_model.specs.BitLaws.{IsBytes}
-use Rattle.frozen_model.specs.Trees.{Scalar, Octets, Text, Binary, Holder, Struct, Keyed, HasKeys, AllHaveKeys}
+use Rattle.frozen_model.specs.Trees.{LeafKind, ByteKind, Text, Binary, Holder, Struct, Keyed, HasKeys, AllHaveKeys}
 use Rattle.frozen_model.specs.Values.{Atom, Value, Values, One, Bytes, Items, Absent, Record, NoValue, And, count, IsOf, IsSpelled, key_of, above, bound, Rises, Of, one, bytes, items, absent, present, record_of, OfEach, none, more, OfAll, no_part, part, inline_cells, range_cells, range_cells_each, range_cells_all, cell_limit}
 use Rattle.frozen_model.specs.Layouts.{Version, IsCoded, Coded, Layout, Layouts, OfVersion, AllOfVersion, Legal, AllLegal, Fits, width, stride, strides, meaning, stored, number_of, atom_of, in_range}
 use Rattle.frozen_model.specs.Packing.{extent, extents, extent_all, bytes_for, padding, distance, range_bits, image, images, image_all, tail, tails, tail_all, block, Stands}
-use Rattle.frozen_model.specs.Holding.{RangeFits, HoldsAt, HoldsEach, HoldsAll}
+use Rattle.frozen_laws.specs.Everywhere.{RangeFits, HoldsAt, HoldsEach, HoldsAll}
 use Rattle.frozen_model.specs.Walk.{Fault, require, and_then, Walked, walk_each, range_at, bytes_at, items_at, in_order, walk, walk_all, is_spelled}
 use Rattle.frozen_model.proofs.Digits.{digits_below}
-use Rattle.frozen_model.proofs.Fields.{length-bits}
+use Rattle.frozen_model.proofs.Fields.{length-bits, length_bits_of}
 use Rattle.frozen_laws.proofs.Numbers.{same_bytes, one_below, stored_fits, stored_back, atom_back, range_back}
 use Rattle.frozen_laws.proofs.Unique.{length_image, length_images}
 use Rattle.frozen_laws.proofs.Lengths.{length_tail, length_padding}
-use Rattle.frozen_laws.proofs.Standing.{stands_left, stands_right, stands_same, stands_inside, length_bits_of, bytes_stand, all_bytes, all_take, all_drop, field_is, zero_stands}
+use Rattle.frozen_laws.proofs.Standing.{stands_left, stands_right, stands_same, stands_inside, bytes_stand, all_bytes, all_take, all_drop, field_is, zero_stands}
 use Rattle.frozen_laws.proofs.Reading.{KeyFor, key_for}
 use Rattle.frozen_laws.proofs.Sound.{first_key, first_rises, same_first}
 
@@ -64,7 +64,7 @@ bytes_again cs bs next hc hb h s =
     let same : bits_of part ≡ bits_of bs = stands_same (bits_of cs) (bits_of part) (bits_of bs) (8 * next) (omega (arith, length_bits_of part, length_bits_of bs)) (bytes_stand cs next n room) s in
     (room, (same_bytes part bs [] [] (all_take (λ b. b < 256) n (drop next cs) (all_drop (λ b. b < 256) next cs (all_bytes cs hc))) hb long (ap (λ r. r ++ []) same)).0)
 
-spelled_again : (t : Octets) (bs cs : List ℕ) → cs ≡ bs → IsSpelled t bs → is_spelled t cs ≡ true
+spelled_again : (t : ByteKind) (bs cs : List ℕ) → cs ≡ bs → IsSpelled t bs → is_spelled t cs ≡ true
 spelled_again Text bs cs e u = ap (is_spelled Text) e ∙ is_utf8-from_IsUtf8 bs u
 spelled_again Binary bs cs e u = refl
 
@@ -89,7 +89,7 @@ range_goes cs d c n start bit next go s r e =
     require_true (nat_eq found (distance m (next - start))) _ (go m) s (to_eq found (distance m (next - start)) (r.found ∙ ap (λ k. distance k (next - start)) (sym r.many))) (ap go r.many ∙ e)
 
 -- the flag or number that stands at a leaf
-leaf_again : {n : Version} {k : Scalar} {c : Coded} (x : Atom) (m : ℕ) → IsCoded n k c → IsOf k x → Fits c (number_of x) → m ≡ stored c (number_of x) → meaning c m ≡ number_of x
+leaf_again : {n : Version} {k : LeafKind} {c : Coded} (x : Atom) (m : ℕ) → IsCoded n k c → IsOf k x → Fits c (number_of x) → m ≡ stored c (number_of x) → meaning c m ≡ number_of x
 leaf_again {c = c} x m i o f e = ap (meaning c) e ∙ stored_back x i o f
 
 -- where the block of the items stands, and its parts
@@ -149,7 +149,7 @@ module _ (version : Version) (cs : List ℕ) (small : IsBytes cs) where
         (require_true _ _ _ _ (to_le (cells + n * suc (inline_cells l)) cell_limit (omega arith))
         (require_true _ _ _ _ (to_le nx (length cs) room')
         (require_true _ _ _ _ (to_eq (field cs (8 * next + u) (8 * bytes_for u - u)) 0 b.zeros)
-        (then_ok (walk_each g (walk cs l next) (stride l) None n (8 * next) nx (cells + n * suc (inline_cells l))) _ _ _ each (same_result (Items vs) _ _ _ _ (omega arith) (omega arith))))))
+        (then_ok (walk_each g (walk cs l next) (stride l) None n (8 * next) nx (cells + n * suc (inline_cells l))) _ _ _ each (same_result (Items g vs) _ _ _ _ (omega arith) (omega arith))))))
     walk_finds (absent {w = w} {l = l}) coded legal keys start key bit next cells kf up past inside room f i t few =
         let two = subst (λ r. Stands (bits_of cs) bit r) (sym (replicate-append-replicate w (stride l) false)) i in
         let flag = stands_left (bits_of cs) (replicate w false) (replicate (stride l) false) bit two in

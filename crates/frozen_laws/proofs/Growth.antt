@@ -1,6 +1,6 @@
 -- Strides and extents grow with the widths.
 use Rattle.std.proofs.Common.{ℕ, ◌*◌, ◌≤◌, arith}
-use Rattle.frozen_model.specs.Trees.{leaf, blob, range, optional, struct, no_field, field}
+use Rattle.frozen_model.specs.Trees.{leaf, byte_range, item_range, optional, struct, no_field, field}
 use Rattle.frozen_model.specs.Values.{Value, Values, count, Of, one, bytes, items, absent, present, record_of, OfEach, none, more, OfAll, no_part, part}
 use Rattle.frozen_model.specs.Layouts.{Layout, Layouts, Narrower, AllNarrower, stride, strides}
 use Rattle.frozen_model.specs.Packing.{extent, extents, extent_all, bytes_for}
@@ -8,8 +8,8 @@ use Rattle.frozen_model.specs.Packing.{extent, extents, extent_all, bytes_for}
 mutual
   pub stride_le : {l m : Layout} → Narrower l m → stride l ≤ stride m
   stride_le (leaf h) = h
-  stride_le (blob hd hc) = omega arith
-  stride_le (range hd hc h) = omega arith
+  stride_le (byte_range hd hc) = omega arith
+  stride_le (item_range hd hc h) = omega arith
   stride_le (optional hw h) = omega (arith, stride_le h)
   stride_le (struct h) = strides_le h
 
@@ -23,8 +23,8 @@ bytes_for_le n s t h = grind arith
 mutual
   pub extent_le : {l m : Layout} {v : Value} → Of l v → Narrower l m → extent l v ≤ extent m v
   extent_le (one x) (leaf h) = omega arith
-  extent_le (bytes x y z) (blob hd hc) = omega arith
-  extent_le (items {vs = vs} n ri hs) (range {l = l} {m = m} hd hc h) = omega (arith, bytes_for_le (count vs) (stride l) (stride m) (stride_le h), extents_le hs h)
+  extent_le (bytes x y z) (byte_range hd hc) = omega arith
+  extent_le (items {vs = vs} n ri hs) (item_range {l = l} {m = m} hd hc h) = omega (arith, bytes_for_le (count vs) (stride l) (stride m) (stride_le h), extents_le hs h)
   extent_le absent (optional hw h) = omega arith
   extent_le (present v) (optional hw h) = extent_le v h
   extent_le (record_of e vs) (struct h) = extent_all_le vs h

@@ -4,11 +4,11 @@ use Rattle.std.specs.Prelude.{◌≤ℤ◌, ◌-ℤ◌, nat_abs}
 use Rattle.std.proofs.lemmas.Int.{ints}
 use Rattle.std.specs.List.{AllByRecursion}
 use Rattle.frozen_model.specs.Bits.{digits, need_unsigned}
-use Rattle.frozen_model.specs.Trees.{Scalar}
+use Rattle.frozen_model.specs.Trees.{LeafKind}
 use Rattle.frozen_model.specs.Layouts.{Version, IsCoded, flag_coded, signed_coded, based_coded, Coded, Unsigned, TwosComplement, FromBase, width, with_width, need, Fits, IsReached}
 use Rattle.frozen_model.specs.Holding.{greatest_need, greatest_digits, Among, IsLeastOf, IsBasedOn}
 use Rattle.frozen_laws.specs.Laws.{NoGreater, ends, then}
-use Rattle.frozen_model.proofs.Digits.{digits_below, digits_within}
+use Rattle.frozen_model.proofs.Digits.{digits_mono}
 
 -- ---- what holds of all numbers of a list
 
@@ -25,9 +25,6 @@ all_split P [] ys h = (tt, h)
 all_split P (x ∷ xs) ys h = let r = all_split P xs ys h.1 in ((h.0, r.0), r.1)
 
 -- ---- digits
-
-pub digits_mono : (m n : ℕ) → m ≤ n → digits m ≤ digits n
-digits_mono m n h = digits_within m (digits n) (omega (arith, digits_below n (digits n) (omega arith)))
 
 pub digits_le_mono : {ms ns : List ℕ} → NoGreater ms ns → greatest_digits ms ≤ greatest_digits ns
 digits_le_mono ends = omega arith
@@ -53,7 +50,7 @@ width_with (TwosComplement v) w = refl
 width_with (FromBase b v) w = refl
 
 -- a coding with another width
-pub coded_with : {n : Version} {k : Scalar} {c : Coded} → IsCoded n k c → (w : ℕ) → IsCoded n k (with_width c w)
+pub coded_with : {n : Version} {k : LeafKind} {c : Coded} → IsCoded n k c → (w : ℕ) → IsCoded n k (with_width c w)
 coded_with flag_coded w = flag_coded
 coded_with signed_coded w = signed_coded
 coded_with (based_coded h) w = based_coded h
@@ -91,7 +88,7 @@ based_need b b' w w' (x ∷ xs) lower above fits =
     omega (arith, fits.0.wide, digits_mono (nat_abs (x -ℤ b)) (nat_abs (x -ℤ b')) (gap_le b b' x lower above.0), based_need b b' w w' xs lower above.1 fits.1)
 
 -- in one version, what a leaf with its base needs is at most the width of a leaf that its numbers fit
-pub need_le : {n : Version} {k : Scalar} {c d : Coded} (xs : List ℤ) → IsCoded n k c → IsCoded n k d → IsBasedOn c xs → AllByRecursion (Fits d) xs → greatest_need c xs ≤ width d
+pub need_le : {n : Version} {k : LeafKind} {c d : Coded} (xs : List ℤ) → IsCoded n k c → IsCoded n k d → IsBasedOn c xs → AllByRecursion (Fits d) xs → greatest_need c xs ≤ width d
 need_le xs (flag_coded {w = w}) (flag_coded {w = v}) h f = need_within (Unsigned w) v xs (all_map {P = Fits (Unsigned v)} xs (λ x g. g.wide) f)
 need_le xs (signed_coded {w = w}) (signed_coded {w = v}) h f = need_within (TwosComplement w) v xs (all_map {P = Fits (TwosComplement v)} xs (λ x g. g.wide) f)
 need_le [] (based_coded o) (based_coded p) h f = omega arith

@@ -4,8 +4,8 @@ use Rattle.std.proofs.Math.ListN.{length-replicate}
 use Rattle.frozen_model.specs.Values.{Value, Values, count, Of, one, bytes, items, absent, present, record_of, OfEach, none, more, OfAll, no_part, part}
 use Rattle.frozen_model.specs.Layouts.{Layout, Layouts, stride}
 use Rattle.frozen_model.specs.Packing.{extent, extents, extent_all, bytes_for, padding, tail, tails, tail_all, block}
+use Rattle.frozen_model.proofs.Fields.{length_bits_of}
 use Rattle.frozen_laws.proofs.Unique.{length_images}
-use Rattle.frozen_laws.proofs.Standing.{length_bits_of}
 
 pub length_padding : (n : ℕ) → length (padding n) ≡ 8 * bytes_for n - n
 length_padding n = length-replicate (8 * bytes_for n - n) false

@@ -1,8 +1,13 @@
 pub mod Growth
 pub mod Leafwise
+pub mod SameKinds
 pub mod Leaves
 pub mod Puts
 pub mod Passes
+pub mod Stays
+pub mod Limits
+pub mod Packed
+pub mod Places
 pub mod Cells
 pub mod Holding
 pub mod Numbers

@@ -7,7 +7,7 @@ use Rattle.std.proofs.lemmas.Bool.Decides.{nat_tests}
 use Rattle.std.proofs.lemmas.Int.{ints}
 use Rattle.std.specs.List.{AllByRecursion}
 use Rattle.frozen_model.specs.Bits.{bits, bits_of, need_signed, need_unsigned, signed}
-use Rattle.frozen_model.specs.Trees.{Whole, Scalar, Flag, Integer, value_bits, greatest}
+use Rattle.frozen_model.specs.Trees.{Whole, LeafKind, Flag, Integer, value_bits, greatest}
 use Rattle.frozen_model.specs.Values.{Atom, Truth, Number, InBits, IsOf}
 use Rattle.frozen_model.specs.Layouts.{Version, Version1, IsCoded, flag_coded, signed_coded, based_coded, Coded, Unsigned, width, number_of, atom_of, stored, meaning, Fits, in_range, leaf_bits}
 use Rattle.frozen_model.proofs.Digits.{digits_below, digits_within, bits-injective, complement_fits, signed-complement, signed_is}
@@ -55,7 +55,7 @@ thin_below (suc (suc w)) n h k = absurd (omega arith)
 
 -- ---- leaves
 
-pub stored_fits : {n : Version} {k : Scalar} {c : Coded} (x : Atom) → IsCoded n k c → IsOf k x → Fits c (number_of x) → stored c (number_of x) < 2 ^ width c
+pub stored_fits : {n : Version} {k : LeafKind} {c : Coded} (x : Atom) → IsCoded n k c → IsOf k x → Fits c (number_of x) → stored c (number_of x) < 2 ^ width c
 stored_fits x (flag_coded {w = w}) o f = digits_below (nat_abs (number_of x)) w f.wide
 stored_fits (Number z) (signed_coded {w = w}) o f = complement_fits w z f.wide
 stored_fits (Truth b) (signed_coded {w = w}) o f = absurd o
@@ -75,7 +75,7 @@ flag_back true = refl
 flag_back false = refl
 
 -- what is stored for a number that fits means that number
-pub stored_back : {n : Version} {k : Scalar} {c : Coded} (x : Atom) → IsCoded n k c → IsOf k x → Fits c (number_of x) → meaning c (stored c (number_of x)) ≡ number_of x
+pub stored_back : {n : Version} {k : LeafKind} {c : Coded} (x : Atom) → IsCoded n k c → IsOf k x → Fits c (number_of x) → meaning c (stored c (number_of x)) ≡ number_of x
 stored_back (Truth b) (flag_coded {w = w}) o f = flag_back b
 stored_back (Number z) (flag_coded {w = w}) o f = absurd o
 stored_back (Number z) (signed_coded {w = w}) o f = signed-complement w z f.wide
@@ -83,14 +83,14 @@ stored_back (Truth b) (signed_coded {w = w}) o f = absurd o
 stored_back (Number z) (based_coded {b = b} {w = w} r) o f = base_back b z f.reached
 stored_back (Truth d) (based_coded {b = b} {w = w} r) o f = absurd o
 
-pub atom_back : (k : Scalar) (x : Atom) → IsOf k x → atom_of k (number_of x) ≡ x
+pub atom_back : (k : LeafKind) (x : Atom) → IsOf k x → atom_of k (number_of x) ≡ x
 atom_back Flag (Truth true) o = refl
 atom_back Flag (Truth false) o = refl
 atom_back Flag (Number z) o = absurd o
 atom_back (Integer k) (Truth b) o = absurd o
 atom_back (Integer k) (Number z) o = refl
 
-pub range_back : (k : Scalar) (x : Atom) → IsOf k x → in_range k (number_of x) ≡ true
+pub range_back : (k : LeafKind) (x : Atom) → IsOf k x → in_range k (number_of x) ≡ true
 range_back Flag x o = refl
 range_back (Integer k) (Truth b) o = absurd o
 range_back (Integer k) (Number (pos n)) o = let t : nat_lt n (2 ^ value_bits k) ≡ true = grind (arith, nat_tests) in t
@@ -101,14 +101,14 @@ in_bits k (pos n) e = grind (arith, nat_tests)
 in_bits k (negsuc n) e = grind (arith, nat_tests)
 
 -- two flags or numbers with one stored number
-pub stored_same : {n : Version} {k : Scalar} {c : Coded} (x y : Atom) → IsCoded n k c → IsOf k x → IsOf k y → Fits c (number_of x) → Fits c (number_of y) → leaf_bits c (number_of x) ≡ leaf_bits c (number_of y) → x ≡ y
+pub stored_same : {n : Version} {k : LeafKind} {c : Coded} (x y : Atom) → IsCoded n k c → IsOf k x → IsOf k y → Fits c (number_of x) → Fits c (number_of y) → leaf_bits c (number_of x) ≡ leaf_bits c (number_of y) → x ≡ y
 stored_same {k = k} {c = c} x y i o p f g e =
     let same : stored c (number_of x) ≡ stored c (number_of y) = bits-injective (width c) (stored c (number_of x)) (stored c (number_of y)) (stored_fits x i o f) (stored_fits y i p g) e in
     let number : number_of x ≡ number_of y = sym (stored_back x i o f) ∙ ap (meaning c) same ∙ stored_back y i p g in
     sym (atom_back k x o) ∙ ap (atom_of k) number ∙ atom_back k y p
 
 -- the flag or number that is read at a leaf
-pub record IsRead (k : Scalar) (c : Coded) (m : ℕ) (x : Atom) : Type 0 where
+pub record IsRead (k : LeafKind) (c : Coded) (m : ℕ) (x : Atom) : Type 0 where
   pub of_kind : IsOf k x
   pub fits : Fits c (number_of x)
   pub back : stored c (number_of x) ≡ m
@@ -118,7 +118,7 @@ flag_read w zero h k = record { of_kind = tt; fits = record { reached = tt; wide
 flag_read w (suc zero) h k = record { of_kind = tt; fits = record { reached = tt; wide = digits_within 1 w k }; back = refl }
 flag_read w (suc (suc m)) h k = absurd (omega arith)
 
-pub leaf_read : {n : Version} {k : Scalar} {c : Coded} (m : ℕ) → IsCoded n k c → width c ≤ greatest k → m < 2 ^ width c → in_range k (meaning c m) ≡ true → IsRead k c m (atom_of k (meaning c m))
+pub leaf_read : {n : Version} {k : LeafKind} {c : Coded} (m : ℕ) → IsCoded n k c → width c ≤ greatest k → m < 2 ^ width c → in_range k (meaning c m) ≡ true → IsRead k c m (atom_of k (meaning c m))
 leaf_read m (flag_coded {w = w}) g h e = flag_read w m (thin_below w m g h) h
 leaf_read m (signed_coded {k = k} {w = w}) g h e =
     let s = signed_is w m h in
@@ -139,6 +139,6 @@ signed_within v (pos zero) h = pow_pos v
 signed_within v (pos (suc n)) h = digits_below (suc n) v (omega arith)
 signed_within v (negsuc n) h = digits_below n v (omega arith)
 
-pub always_in_range : (k : Scalar) (c : Coded) (m : ℕ) → IsCoded Version1 k c → width c ≤ greatest k → m < 2 ^ width c → in_range k (meaning c m) ≡ true
+pub always_in_range : (k : LeafKind) (c : Coded) (m : ℕ) → IsCoded Version1 k c → width c ≤ greatest k → m < 2 ^ width c → in_range k (meaning c m) ≡ true
 always_in_range k c m flag_coded g h = refl
 always_in_range k c m (signed_coded {k = j} {w = w}) g h = let s = signed_is w m h in to_range j (signed w m) (signed_within (value_bits j) (signed w m) (omega (arith, s.fits)))

@@ -1,5 +1,5 @@
 -- Opening accepts exactly what packing writes.
-use Rattle.std.proofs.Common.{◌≡◌, ℕ, ◌+◌, ◌-◌, ◌*◌, ◌≤◌, ◌<◌, List, [], ◌++◌, Bool, true, false, ◌&&◌, length, arith, refl, ap, sym, ◌∙◌, subst, nat_eq, nat_le, take, drop, Result, Ok, Err, None, length-append, length-take, length-drop}
+use Rattle.std.proofs.Common.{◌≡◌, ◌↔◌, ℕ, zero, suc, ◌∷◌, ◌+◌, ◌-◌, ◌*◌, ◌≤◌, ◌<◌, List, [], ◌++◌, Bool, true, false, ◌&&◌, length, arith, refl, ap, sym, ◌∙◌, subst, nat_eq, nat_le, take, drop, Result, Ok, Err, None, length-append, length-take, length-drop}
 use Rattle.std.proofs.lemmas.List.{append-nil, take-append-drop, drop-drop, get_or-drop}
 use Rattle.std.proofs.Math.Seq.{take-append_seam, drop-append_seam}
 use Rattle.std.proofs.lemmas.Bool.{and_parts}
@@ -7,18 +7,19 @@ use Rattle.std.specs.Str.{bytes_eq}
 use Rattle.std.proofs.lemmas.Slice.Eq.{bytes_eq-Decides}
 use Rattle.frozen_model.specs.Bits.{bits_of, field, number}
 use Rattle.frozen_model.specs.BitLaws.{IsBytes}
-use Rattle.frozen_model.specs.Trees.{Tree, Trees, Leaf, Blob, Range, Optional, Struct, NoField, Field, Holder, AList, ASet, AMap, Keyed, HasKeys, AllHaveKeys, IsItem, IsFormed, AllFormed, nodes, nodes_all}
+use Rattle.frozen_model.specs.Trees.{Tree, Trees, Leaf, ByteRange, ItemRange, Optional, Struct, NoField, Field, Holder, AList, ASet, AMap, Keyed, HasKeys, AllHaveKeys, IsItem, IsFormed, AllFormed, nodes, nodes_all}
 use Rattle.frozen_model.specs.Values.{Value, NoValue, And, Of, none, more, inline_cells, inline_cells_all}
-use Rattle.frozen_model.specs.Layouts.{Version, Layout, IsLayout, stride}
+use Rattle.frozen_model.specs.Layouts.{Version, Layout, IsLayout, Described, IsDescribed, stride}
 use Rattle.frozen_model.specs.Packing.{extent, bytes_for, padding, image, images, tail, tails, pack, Packs, Stands}
-use Rattle.frozen_model.specs.Holding.{HoldsAt}
+use Rattle.frozen_model.proofs.Fields.{length_bits_of}
+use Rattle.frozen_laws.specs.Everywhere.{HoldsAt}
 use Rattle.frozen_model.specs.Walk.{Fault, walk, open_content}
-use Rattle.frozen_model.specs.Files.{FileFault, magic, schema_length, schema_of, content_of, demand, answered, open_file, File}
+use Rattle.frozen_model.specs.Files.{FileFault, magic, schema_length, schema_bytes, content_of, demand, answered, open_file, File}
 use Rattle.frozen_laws.specs.Laws.{IsContent}
 use Rattle.frozen_laws.proofs.Cells.{cells_are}
 use Rattle.frozen_laws.proofs.Holding.{fit_at, at_fit}
 use Rattle.frozen_laws.proofs.Lengths.{length_block}
-use Rattle.frozen_laws.proofs.Standing.{stands_in, stands_same, stands_zero, length_bits_of}
+use Rattle.frozen_laws.proofs.Standing.{stands_in, stands_same, stands_zero}
 use Rattle.frozen_laws.proofs.Reading.{Gives, gives, require_ok, and_then_ok, from_eq, from_le, block_there}
 use Rattle.frozen_laws.proofs.Sound.{walk_reads}
 use Rattle.frozen_laws.proofs.Finds.{require_true, then_ok, to_eq, to_le, block_is, walk_finds}
@@ -28,13 +29,13 @@ use Rattle.frozen_laws.proofs.Finds.{require_true, then_ok, to_eq, to_le, block_
 keyed : {A B : Type 0} (h : Holder) (l : Tree A B) → IsItem h l → Keyed h l
 keyed AList l i = tt
 keyed ASet (Leaf k a) i = tt
-keyed ASet (Blob t d c) i = tt
-keyed ASet (Range h d c l) i = absurd i
+keyed ASet (ByteRange t d c) i = tt
+keyed ASet (ItemRange h d c l) i = absurd i
 keyed ASet (Optional w l) i = absurd i
 keyed ASet (Struct ls) i = absurd i
 keyed AMap (Leaf k a) i = absurd i
-keyed AMap (Blob t d c) i = absurd i
-keyed AMap (Range h d c l) i = absurd i
+keyed AMap (ByteRange t d c) i = absurd i
+keyed AMap (ItemRange h d c l) i = absurd i
 keyed AMap (Optional w l) i = absurd i
 keyed AMap (Struct NoField) i = absurd i
 keyed AMap (Struct (Field n k NoField)) i = absurd i
@@ -44,8 +45,8 @@ keyed AMap (Struct (Field n k (Field m v (Field o w ls)))) i = absurd i
 mutual
   pub formed_keys : {A B : Type 0} (l : Tree A B) → IsFormed l → HasKeys l
   formed_keys (Leaf k a) f = tt
-  formed_keys (Blob t d c) f = tt
-  formed_keys (Range h d c l) f = (keyed h l f.0, formed_keys l f.1)
+  formed_keys (ByteRange t d c) f = tt
+  formed_keys (ItemRange h d c l) f = (keyed h l f.0, formed_keys l f.1)
   formed_keys (Optional w l) f = formed_keys l f.1
   formed_keys (Struct ls) f = all_formed_keys ls f.1
 
@@ -56,8 +57,8 @@ mutual
 mutual
   pub inline_nodes : {A B : Type 0} (l : Tree A B) → inline_cells l ≤ nodes l
   inline_nodes (Leaf k a) = omega arith
-  inline_nodes (Blob t d c) = omega arith
-  inline_nodes (Range h d c l) = omega arith
+  inline_nodes (ByteRange t d c) = omega arith
+  inline_nodes (ItemRange h d c l) = omega arith
   inline_nodes (Optional w l) = omega (arith, inline_nodes l)
   inline_nodes (Struct ls) = omega (arith, all_inline_nodes ls)
 
@@ -184,41 +185,49 @@ second_part n xs ys e = ap (λ k. drop k (xs ++ ys)) (sym e) ∙ drop-append_sea
 bytes_after : (n : ℕ) (b : List ℕ) → IsBytes b → IsBytes (drop n b)
 bytes_after n b h k = subst (λ x. x < 256) (sym (get_or-drop n b k 0)) (h (n + k))
 
-module _ {F : Type 0} (read : List ℕ → Result Layout F) (layouts : (s : List ℕ) (l : Layout) → read s ≡ Ok l → (n : Version) × IsLayout n l) where
-  pub file_sound : (b : List ℕ) (l : Layout) (v : Value) → IsBytes b → open_file read b ≡ Ok (l, v) → File read b l v
-  file_sound b l v small h =
+bytes_before : (n : ℕ) (b : List ℕ) → IsBytes b → IsBytes (take n b)
+bytes_before zero b h k = omega arith
+bytes_before (suc n) [] h k = omega arith
+bytes_before (suc n) (x ∷ b) h zero = h 0
+bytes_before (suc n) (x ∷ b) h (suc k) = bytes_before n b (λ j. h (suc j)) k
+
+module _ {F : Type 0} (Spells : List ℕ → Described → Type 0) (read : List ℕ → Result Described F) (layouts : (s : List ℕ) (d : Described) → Spells s d → IsDescribed d)
+    (exact : (s : List ℕ) (d : Described) → IsBytes s → read s ≡ Ok d ↔ Spells s d) where
+  pub file_sound : (b : List ℕ) (d : Described) (v : Value) → IsBytes b → open_file read b ≡ Ok (d, v) → File Spells b d v
+  file_sound b d v small h =
       let d1 = demand_parts _ _ _ _ h in
       let d2 = demand_parts _ _ _ _ d1.1 in
-      let a1 = answered_parts (read (schema_of b)) _ _ _ d2.1 in
-      let a2 = answered_parts (open_content (content_of b) a1.0) _ _ _ a1.2 in
-      let whole : (a1.0, a2.0) ≡ (l, v) = out_of_ok F (Layout × Value) (a1.0, a2.0) (l, v) a2.2 in
-      let pair : (a1.0 ≡ l) × (a2.0 ≡ v) = (ap (λ (x : Layout × Value). x.0) whole, ap (λ (x : Layout × Value). x.1) whole) in
+      let a1 = answered_parts (read (schema_bytes b)) _ _ _ d2.1 in
+      let a2 = answered_parts (open_content (content_of b) a1.0.tree) _ _ _ a1.2 in
+      let whole : (a1.0, a2.0) ≡ (d, v) = out_of_ok F (Described × Value) (a1.0, a2.0) (d, v) a2.2 in
+      let pair : (a1.0 ≡ d) × (a2.0 ≡ v) = (ap (λ (x : Described × Value). x.0) whole, ap (λ (x : Described × Value). x.1) whole) in
       let header = and_parts (nat_le 8 (length b)) (bytes_eq (take 4 b) magic) d1.0 in
       let eight : 8 ≤ length b = from_le 8 (length b) header.0 in
       let enough : schema_length b ≤ length b - 8 = from_le (schema_length b) (length b - 8) d2.0 in
       let start : take 4 b ≡ magic = (bytes_eq-Decides (take 4 b) magic).0 header.1 in
       let n = schema_length b in
-      let layout : read (schema_of b) ≡ Ok l = a1.1 ∙ ap Ok pair.0 in
-      let found = layouts (schema_of b) l layout in
-      let content : open_content (content_of b) l ≡ Ok v = subst (λ m. open_content (content_of b) m ≡ Ok v) pair.0 (a2.1 ∙ ap Ok pair.1) in
-      let is = gives_ok (open_content (content_of b) l) v (content_sound found.0 l (content_of b) found.1 (bytes_after n (drop 8 b) (bytes_after 8 b small))) content in
+      let behind : IsBytes (drop 8 b) = bytes_after 8 b small in
+      let spelled : Spells (schema_bytes b) d = (exact (schema_bytes b) d (bytes_before n (drop 8 b) behind)).0 (a1.1 ∙ ap Ok pair.0) in
+      let found = (layouts (schema_bytes b) d spelled).layout in
+      let content : open_content (content_of b) d.tree ≡ Ok v = subst (λ (m : Described). open_content (content_of b) m.tree ≡ Ok v) pair.0 (a2.1 ∙ ap Ok pair.1) in
+      let is = gives_ok (open_content (content_of b) d.tree) v (content_sound d.version d.tree (content_of b) found (bytes_after n (drop 8 b) behind)) content in
       record {
         size = take 4 (drop 4 b);
-        schema = schema_of b;
+        schema = schema_bytes b;
         content = content_of b;
         joined = parts_of b n start;
         four = omega (arith, length-take 4 (drop 4 b), length-drop 4 b);
         sized = omega (arith, length-take n (drop 8 b), length-drop 8 b);
-        schema_read = layout;
+        spelled = spelled;
         holds = is.holds;
         within = is.within;
         packed = is.packed;
       }
 
-  pub file_complete : (b : List ℕ) (l : Layout) (v : Value) → IsBytes b → File read b l v → open_file read b ≡ Ok (l, v)
-  file_complete b l v small h = subst (λ c. open_file read c ≡ Ok (l, v)) (sym h.joined) (opened (subst IsBytes h.joined small))
+  pub file_complete : (b : List ℕ) (d : Described) (v : Value) → IsBytes b → File Spells b d v → open_file read b ≡ Ok (d, v)
+  file_complete b d v small h = subst (λ c. open_file read c ≡ Ok (d, v)) (sym h.joined) (opened (subst IsBytes h.joined small))
     where
-      opened : IsBytes (magic ++ (h.size ++ (h.schema ++ h.content))) → open_file read (magic ++ (h.size ++ (h.schema ++ h.content))) ≡ Ok (l, v)
+      opened : IsBytes (magic ++ (h.size ++ (h.schema ++ h.content))) → open_file read (magic ++ (h.size ++ (h.schema ++ h.content))) ≡ Ok (d, v)
       opened bytes =
           let rest = h.schema ++ h.content in
           let b' = magic ++ (h.size ++ rest) in
@@ -226,17 +235,19 @@ module _ {F : Type 0} (read : List ℕ → Result Layout F) (layouts : (s : List
           let size : take 4 (drop 4 b') ≡ h.size = first_part 4 h.size rest h.four in
           let number_is : schema_length b' ≡ length h.schema = ap number size ∙ h.sized in
           let behind : drop 8 b' ≡ rest = second_part 4 h.size rest h.four in
-          let schema_is : schema_of b' ≡ h.schema = ap (λ k. take k (drop 8 b')) number_is ∙ ap (take (length h.schema)) behind ∙ take-append_seam h.schema h.content in
+          let schema_is : schema_bytes b' ≡ h.schema = ap (λ k. take k (drop 8 b')) number_is ∙ ap (take (length h.schema)) behind ∙ take-append_seam h.schema h.content in
           let content_is : content_of b' ≡ h.content = ap (λ k. drop k (drop 8 b')) number_is ∙ ap (drop (length h.schema)) behind ∙ drop-append_seam h.schema h.content in
-          let found = layouts h.schema l h.schema_read in
-          let small_content : IsBytes h.content = subst IsBytes content_is (bytes_after (schema_length b') (drop 8 b') (bytes_after 8 b' bytes)) in
-          let is : IsContent l v h.content = record { holds = h.holds; within = h.within; packed = h.packed } in
+          let all : IsBytes (drop 8 b') = bytes_after 8 b' bytes in
+          let small_schema : IsBytes h.schema = subst IsBytes schema_is (bytes_before (schema_length b') (drop 8 b') all) in
+          let small_content : IsBytes h.content = subst IsBytes content_is (bytes_after (schema_length b') (drop 8 b') all) in
+          let found = (layouts h.schema d h.spelled).layout in
+          let is : IsContent d.tree v h.content = record { holds = h.holds; within = h.within; packed = h.packed } in
           demand_true _ _ _ _ (both_true _ _ (to_le 8 (length b') (omega arith)) refl)
           (demand_true _ _ _ _ (to_le (schema_length b') (length b' - 8) (omega arith))
-          (answered_ok (read (schema_of b')) _ _ l _ (ap read schema_is ∙ h.schema_read)
-          (answered_ok (open_content (content_of b') l) _ _ v _ (ap (λ c. open_content c l) content_is ∙ content_complete found.0 l v h.content found.1 small_content is) refl)))
+          (answered_ok (read (schema_bytes b')) _ _ d _ (ap read schema_is ∙ (exact h.schema d small_schema).1 h.spelled)
+          (answered_ok (open_content (content_of b') d.tree) _ _ v _ (ap (λ c. open_content c d.tree) content_is ∙ content_complete d.version d.tree v h.content found small_content is) refl)))
 
-  pub file_unique : (b : List ℕ) (l m : Layout) (v u : Value) → IsBytes b → File read b l v → File read b m u → (l ≡ m) × (v ≡ u)
-  file_unique b l m v u small h k =
-      let whole : (l, v) ≡ (m, u) = out_of_ok F (Layout × Value) (l, v) (m, u) (sym (file_complete b l v small h) ∙ file_complete b m u small k) in
-      (ap (λ (x : Layout × Value). x.0) whole, ap (λ (x : Layout × Value). x.1) whole)
+  pub file_unique : (b : List ℕ) (d e : Described) (v u : Value) → IsBytes b → File Spells b d v → File Spells b e u → (d ≡ e) × (v ≡ u)
+  file_unique b d e v u small h k =
+      let whole : (d, v) ≡ (e, u) = out_of_ok F (Described × Value) (d, v) (e, u) (sym (file_complete b d v small h) ∙ file_complete b e u small k) in
+      (ap (λ (x : Described × Value). x.0) whole, ap (λ (x : Described × Value). x.1) whole)

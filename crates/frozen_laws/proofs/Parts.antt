@@ -3,17 +3,18 @@ use Rattle.std.proofs.Common.{◌≡◌, ℕ, zero, suc, ◌+◌, ◌-◌, ◌*�
 use Rattle.std.proofs.lemmas.List.{append-nil}
 use Rattle.frozen_model.specs.Bits.{bits, bits_of}
 use Rattle.frozen_model.specs.BitLaws.{IsBytes}
-use Rattle.frozen_model.specs.Trees.{Holder, Range, Optional, Struct, Field, nodes, Part, itself, in_item, in_optional, in_struct, PartAll, in_first, in_later}
+use Rattle.frozen_model.specs.Trees.{Holder, ItemRange, Optional, Struct, Field, nodes, Part, itself, in_item, in_optional, in_struct, PartAll, in_first, in_later}
 use Rattle.frozen_model.specs.Values.{Value, Values, Items, Present, Record, NoValue, And, count, nth, Of, items, present, record_of, OfEach, none, more, OfAll, part}
 use Rattle.frozen_model.specs.Layouts.{Layout, Layouts, stride, strides}
 use Rattle.frozen_model.specs.Packing.{extent, extents_before, bytes_for, image, images, image_all, tail, tails, tail_all, pack, Packs, Stands, Place, place, PartAt, here, item_at, inner_at, field_at, PartAmong, first_at, later_at}
-use Rattle.frozen_model.specs.Holding.{Holds, HoldsAt, HoldsEach, HoldsAll}
-use Rattle.frozen_model.proofs.Fields.{length-bits}
+use Rattle.frozen_model.specs.Holding.{Holds}
+use Rattle.frozen_laws.specs.Everywhere.{HoldsAt, HoldsEach, HoldsAll}
+use Rattle.frozen_model.proofs.Fields.{length-bits, length_bits_of}
 use Rattle.frozen_laws.specs.Laws.{StandsAt}
 use Rattle.frozen_laws.proofs.Holding.{at_fit}
 use Rattle.frozen_laws.proofs.Unique.{length_image}
 use Rattle.frozen_laws.proofs.Lengths.{length_tail, length_block}
-use Rattle.frozen_laws.proofs.Standing.{stands_left, stands_right, stands_in, stands_inside, length_bits_of}
+use Rattle.frozen_laws.proofs.Standing.{stands_left, stands_right, stands_in, stands_inside}
 use Rattle.frozen_laws.proofs.Finds.{block_is}
 
 -- where the tail of the first of several ends
@@ -49,11 +50,11 @@ nth_stands bs (more {l = l} {v = v} {vs = vs} h hs) start bit next past inside r
     (subst (λ k. StandsAt bs l (nth vs j) (place node start (bit + stride l + j * stride l) k)) at_next rest)
 
 -- an item of a list, set or map
-item_stands : (bs : List ℕ) → IsBytes bs → (h : Holder) (d c : ℕ) (l : Layout) (vs : Values) (q : Place) → StandsAt bs (Range h d c l) (Items vs) q
+item_stands : (bs : List ℕ) → IsBytes bs → (h : Holder) (d c : ℕ) (l : Layout) (vs : Values) (q : Place) → StandsAt bs (ItemRange h d c l) (Items h vs) q
     → (node j : ℕ) → j < count vs → StandsAt bs l (nth vs j) (place node q.next (8 * q.next + j * stride l) (q.next + bytes_for (count vs * stride l) + extents_before l vs j))
 item_stands bs small h d c l vs q s node j lt = go s.placed.of_kind s.placed.holds s.placed.tail_there
   where
-    go : Of (Range h d c l) (Items vs) → HoldsAt (Range h d c l) (Items vs) (q.next - q.start) → Stands (bits_of bs) (8 * q.next) (tail (Range h d c l) (Items vs))
+    go : {g : Holder} → Of (ItemRange h d c l) (Items g vs) → HoldsAt (ItemRange h d c l) (Items g vs) (q.next - q.start) → Stands (bits_of bs) (8 * q.next) (tail (ItemRange h d c l) (Items g vs))
         → StandsAt bs l (nth vs j) (place node q.next (8 * q.next + j * stride l) (q.next + bytes_for (count vs * stride l) + extents_before l vs j))
     go (items o ri hs) f t =
         let b = block_is bs q.next small hs s.inside t in

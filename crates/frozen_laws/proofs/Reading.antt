@@ -4,17 +4,17 @@ use Rattle.std.proofs.lemmas.Bool.Decides.{nat_tests}
 use Rattle.std.proofs.lemmas.Str.{IsUtf8-from_is_utf8}
 use Rattle.frozen_model.specs.Bits.{bits, bits_of, field}
 use Rattle.frozen_model.specs.BitLaws.{IsBytes}
-use Rattle.frozen_model.specs.Trees.{Octets, Text, Binary, Holder, AList, ASet, AMap, Blob, IsKey, IsKeyed, Keyed}
+use Rattle.frozen_model.specs.Trees.{ByteKind, Text, Binary, Holder, AList, ASet, AMap, ByteRange, IsKey, IsKeyed, Keyed}
 use Rattle.frozen_model.specs.Values.{Value, Values, Record, count, key_of, above, bound, Rises, IsSpelled, Of, one, bytes, items, absent, present, record_of, OfEach, none, more, OfAll, range_cells, range_cells_each, range_cells_all, cell_limit}
 use Rattle.frozen_model.specs.Layouts.{Layout, Layouts, stride}
 use Rattle.frozen_model.specs.Packing.{extent, extents, extent_all, bytes_for, padding, distance, range_bits, image, images, image_all, tail, tails, tail_all, block, Stands}
-use Rattle.frozen_model.specs.Holding.{RangeFits, HoldsAt, HoldsEach, HoldsAll}
+use Rattle.frozen_laws.specs.Everywhere.{RangeFits, HoldsAt, HoldsEach, HoldsAll}
 use Rattle.frozen_model.specs.Walk.{Fault, require, and_then, Walked, walk_each, range_at, bytes_at, in_order, walk, is_spelled}
 use Rattle.frozen_model.proofs.Digits.{digits_within}
-use Rattle.frozen_model.proofs.Fields.{length-bits}
+use Rattle.frozen_model.proofs.Fields.{length-bits, field_fits}
 use Rattle.frozen_laws.proofs.Unique.{length_image, length_images}
 use Rattle.frozen_laws.proofs.Lengths.{length_tail, length_padding}
-use Rattle.frozen_laws.proofs.Standing.{stands_joined, field_below, stands_field, bytes_stand, all_bytes, all_take, all_drop}
+use Rattle.frozen_laws.proofs.Standing.{stands_joined, stands_field, bytes_stand, all_bytes, all_take, all_drop}
 
 -- where it is Ok, it has P
 pub data Gives {X : Type 0} (P : X → Type 0) : Result X Fault → Type 0 where
@@ -141,18 +141,18 @@ pub range_there : (cs : List ℕ) → IsBytes cs → (d c n at bit found : ℕ) 
 range_there cs small d c n at bit found room ef en e =
     let is : field cs bit d ≡ distance n at = ef ∙ e in
     record {
-      fits = (digits_within (distance n at) d (rw (← is) (field_below cs bit d)), digits_within n c (rw (← en) (field_below cs (bit + d) c)));
+      fits = (digits_within (distance n at) d (rw (← is) (field_fits cs bit d)), digits_within n c (rw (← en) (field_fits cs (bit + d) c)));
       there = joined cs bit d (bits d (distance n at)) (bits c n) (length-bits d (distance n at))
           (rw (← is) (stands_field cs bit d small (omega arith)))
           (rw (← en) (stands_field cs (bit + d) c small (omega arith)));
     }
 
-spelled : (t : Octets) (bs : List ℕ) → is_spelled t bs ≡ true → IsSpelled t bs
+spelled : (t : ByteKind) (bs : List ℕ) → is_spelled t bs ≡ true → IsSpelled t bs
 spelled Text bs e = IsUtf8-from_is_utf8 bs e
 spelled Binary bs e = tt
 
-bytes_read : (cs : List ℕ) → IsBytes cs → (t : Octets) (d c start bit next cells : ℕ) → bit + (d + c) ≤ 8 * length cs → next ≤ length cs
-    → Gives (Reads cs (Blob t d c) start None bit next cells) (range_at cs d c start bit next (bytes_at cs t next cells))
+bytes_read : (cs : List ℕ) → IsBytes cs → (t : ByteKind) (d c start bit next cells : ℕ) → bit + (d + c) ≤ 8 * length cs → next ≤ length cs
+    → Gives (Reads cs (ByteRange t d c) start None bit next cells) (range_at cs d c start bit next (bytes_at cs t next cells))
 bytes_read cs small t d c start bit next cells room inside =
     let found = field cs bit d in
     let n = field cs (bit + d) c in
@@ -177,9 +177,9 @@ bytes_read cs small t d c start bit next cells room inside =
       rises = refl;
     })))))
 
-pub bytes_reads : (cs : List ℕ) → IsBytes cs → (t : Octets) (d c start : ℕ) (key : Option Value) (bit next cells : ℕ) → bit + (d + c) ≤ 8 * length cs → next ≤ length cs
-    → Gives (Reads cs (Blob t d c) start key bit next cells) (walk cs (Blob t d c) start key bit next cells)
-bytes_reads cs small t d c start key bit next cells room inside = ordered_reads cs (Blob t d c) start key bit next cells tt _ (bytes_read cs small t d c start bit next cells room inside)
+pub bytes_reads : (cs : List ℕ) → IsBytes cs → (t : ByteKind) (d c start : ℕ) (key : Option Value) (bit next cells : ℕ) → bit + (d + c) ≤ 8 * length cs → next ≤ length cs
+    → Gives (Reads cs (ByteRange t d c) start key bit next cells) (walk cs (ByteRange t d c) start key bit next cells)
+bytes_reads cs small t d c start key bit next cells room inside = ordered_reads cs (ByteRange t d c) start key bit next cells tt _ (bytes_read cs small t d c start bit next cells room inside)
 
 -- a block that stands there
 pub block_there : (cs : List ℕ) {l : Layout} {vs : Values} (next n : ℕ) → OfEach l vs → count vs ≡ n

@@ -4,17 +4,17 @@ use Rattle.std.proofs.Math.ListN.{length-replicate}
 use Rattle.std.proofs.lemmas.List.{replicate-append-replicate}
 use Rattle.frozen_model.specs.Bits.{bits, bits_of, field}
 use Rattle.frozen_model.specs.BitLaws.{IsBytes}
-use Rattle.frozen_model.specs.Trees.{Holder, Leaf, Blob, Range, Optional, Struct, NoField, Field, IsKeyed, Keyed, HasKeys, AllHaveKeys, ids_of}
+use Rattle.frozen_model.specs.Trees.{Holder, Leaf, ByteRange, ItemRange, Optional, Struct, NoField, Field, IsKeyed, Keyed, HasKeys, AllHaveKeys, ids_of}
 use Rattle.frozen_model.specs.Values.{Value, Values, One, Items, Absent, Present, Record, NoValue, And, count, key_of, above, Of, one, items, absent, present, record_of, no_part, part, inline_cells, cell_limit}
 use Rattle.frozen_model.specs.Layouts.{Version, Layout, Layouts, OfVersion, AllOfVersion, Legal, AllLegal, width, stride, strides, meaning, atom_of, in_range}
 use Rattle.frozen_model.specs.Packing.{extent, bytes_for, distance, range_bits, images, image_all, tail_all, Stands}
-use Rattle.frozen_model.specs.Holding.{RangeFits, HoldsEach, HoldsAll}
+use Rattle.frozen_laws.specs.Everywhere.{RangeFits, HoldsEach, HoldsAll}
 use Rattle.frozen_model.specs.Walk.{walk_each, walk, walk_all}
-use Rattle.frozen_model.proofs.Fields.{length-bits}
+use Rattle.frozen_model.proofs.Fields.{length-bits, field_fits}
 use Rattle.frozen_laws.proofs.Numbers.{thin_below, one_wide, leaf_read}
 use Rattle.frozen_laws.proofs.Unique.{length_image}
 use Rattle.frozen_laws.proofs.Lengths.{length_tail}
-use Rattle.frozen_laws.proofs.Standing.{field_below, stands_field, stands_zero}
+use Rattle.frozen_laws.proofs.Standing.{stands_field, stands_zero}
 use Rattle.frozen_laws.proofs.Reading.{Gives, gives, require_ok, and_then_ok, cond_gives, Reads, ReadsAll, joined, each_reads, range_there, block_there, bytes_reads, KeyFor, key_is, ordered_reads, from_eq, from_ne, from_le}
 
 only_none : (key : Option Value) (v : Value) → (l : Layout) → KeyFor key l → (IsKeyed l → ⊥) → above key v ≡ true
@@ -25,8 +25,8 @@ only_none (Some u) v l k n = absurd (n k)
 pub first_key : (key : Option Value) (i : ℕ) (l : Layout) (ls : Layouts) → KeyFor key (Struct (Field i l ls)) → KeyFor key l
 first_key None i l ls k = tt
 first_key (Some u) i (Leaf a w) ls k = tt
-first_key (Some u) i (Blob t d c) ls k = tt
-first_key (Some u) i (Range g d c m) ls k = absurd k
+first_key (Some u) i (ByteRange t d c) ls k = tt
+first_key (Some u) i (ItemRange g d c m) ls k = absurd k
 first_key (Some u) i (Optional w m) ls k = absurd k
 first_key (Some u) i (Struct ms) ls k = absurd k
 
@@ -38,10 +38,10 @@ pub same_first : (key : Option Value) (ids is : List ℕ) (vs : Values) → abov
 same_first key ids is NoValue e = e
 same_first key ids is (And v vs) e = e
 
-items_reads : (cs : List ℕ) → IsBytes cs → (h : Holder) (d c : ℕ) (l : Layout) (start : ℕ) (key : Option Value) (bit next cells : ℕ) → Keyed h l → KeyFor key (Range h d c l)
+items_reads : (cs : List ℕ) → IsBytes cs → (h : Holder) (d c : ℕ) (l : Layout) (start : ℕ) (key : Option Value) (bit next cells : ℕ) → Keyed h l → KeyFor key (ItemRange h d c l)
     → ((key' : Option Value) (bit' next' cells' : ℕ) → KeyFor key' l → bit' + stride l ≤ 8 * length cs → next' ≤ length cs → next ≤ next' → Gives (Reads cs l next key' bit' next' cells') (walk cs l next key' bit' next' cells'))
     → bit + (d + c) ≤ 8 * length cs → next ≤ length cs
-    → Gives (Reads cs (Range h d c l) start key bit next cells) (walk cs (Range h d c l) start key bit next cells)
+    → Gives (Reads cs (ItemRange h d c l) start key bit next cells) (walk cs (ItemRange h d c l) start key bit next cells)
 items_reads cs small h d c l start key bit next cells o kf ih room inside =
     let found = field cs bit d in
     let n = field cs (bit + d) c in
@@ -71,14 +71,14 @@ items_reads cs small h d c l start key bit next cells o kf ih room inside =
       inside = px.inside;
       grows = omega (arith, px.grows, units);
       few = λ h. px.few most;
-      rises = only_none key (Items x.0) (Range h d c l) kf (λ k. k);
+      rises = only_none key (Items h x.0) (ItemRange h d c l) kf (λ k. k);
     }))))))
 
 -- an optional that is not set
 clear_reads : (cs : List ℕ) → IsBytes cs → (w : ℕ) (l : Layout) (start : ℕ) (key : Option Value) (bit next cells : ℕ) → KeyFor key (Optional w l) → w ≤ 1 → bit + (w + stride l) ≤ 8 * length cs → next ≤ length cs
     → field cs bit w ≢ 1 → field cs (bit + w) (stride l) ≡ 0 → Reads cs (Optional w l) start key bit next cells (Absent, next, cells)
 clear_reads cs small w l start key bit next cells kf thin room inside unset zeros =
-    let is : field cs bit w ≡ 0 = omega (arith, thin_below w (field cs bit w) thin (field_below cs bit w)) in
+    let is : field cs bit w ≡ 0 = omega (arith, thin_below w (field cs bit w) thin (field_fits cs bit w)) in
     let flag : Stands (bits_of cs) bit (replicate w false) = stands_zero cs bit w small (omega arith) is in
     let whole = joined cs bit w (replicate w false) (replicate (stride l) false) (length-replicate w false) flag (stands_zero cs (bit + w) (stride l) small (omega arith) zeros) in
     record { of_kind = absent; holds = tt; image_there = subst (λ r. Stands (bits_of cs) bit r) (replicate-append-replicate w (stride l) false) whole; tail_there = tt; after = omega arith; inside = inside; grows = omega arith; few = λ h. h; rises = only_none key Absent (Optional w l) kf (λ k. k) }
@@ -90,11 +90,11 @@ module _ (version : Version) (cs : List ℕ) (small : IsBytes cs) where
     walk_reads (Leaf k c) coded legal keys start key bit next cells kf room inside past =
         let m = field cs bit (width c) in
         require_ok (in_range k (meaning c m)) _ _ (λ e.
-        let read = leaf_read m coded legal (field_below cs bit (width c)) e in
+        let read = leaf_read m coded legal (field_fits cs bit (width c)) e in
         ordered_reads cs (Leaf k c) start key bit next cells tt (Ok (One (atom_of k (meaning c m)), next, cells))
         (gives (record { of_kind = one read.of_kind; holds = read.fits; image_there = rw read.back (stands_field cs bit (width c) small room); tail_there = tt; after = omega arith; inside = inside; grows = omega arith; few = λ h. h; rises = refl })))
-    walk_reads (Blob t d c) coded legal keys start key bit next cells kf room inside past = bytes_reads cs small t d c start key bit next cells room inside
-    walk_reads (Range h d c l) coded legal keys start key bit next cells kf room inside past =
+    walk_reads (ByteRange t d c) coded legal keys start key bit next cells kf room inside past = bytes_reads cs small t d c start key bit next cells room inside
+    walk_reads (ItemRange h d c l) coded legal keys start key bit next cells kf room inside past =
         items_reads cs small h d c l start key bit next cells keys.0 kf (λ k b n s q r i p. walk_reads l coded legal.2 keys.1 next k b n s q r i p) room inside
     walk_reads (Optional w l) coded legal keys start key bit next cells kf room inside past =
         cond_gives (nat_eq (field cs bit w) 1) _ _
@@ -103,7 +103,7 @@ module _ (version : Version) (cs : List ℕ) (small : IsBytes cs) where
         let set : Stands (bits_of cs) bit (bits w 1) = subst (λ k. Stands (bits_of cs) bit (bits w k)) is (stands_field cs bit w small (omega arith)) in
         gives (record {
           of_kind = present px.of_kind;
-          holds = (one_wide w (subst (λ k. k < 2 ^ w) is (field_below cs bit w)), px.holds);
+          holds = (one_wide w (subst (λ k. k < 2 ^ w) is (field_fits cs bit w)), px.holds);
           image_there = joined cs bit w _ _ (length-bits w 1) set px.image_there;
           tail_there = px.tail_there;
           after = px.after;

@@ -1,13 +1,13 @@
 -- What stands at a place of a list of bits, and of bytes.
 use Rattle.std.proofs.Common.{◌≡◌, ℕ, zero, suc, ◌+◌, ◌*◌, ◌^◌, ◌≤◌, ◌<◌, List, [], ◌∷◌, ◌++◌, Bool, false, length, arith, refl, ap, sym, ◌∙◌, subst, replicate, take, drop, length-take}
 use Rattle.std.proofs.lemmas.List.{take-append-drop}
-use Rattle.std.proofs.lemmas.Nat.{pow_pos, mod_below}
+use Rattle.std.proofs.lemmas.Nat.{pow_pos}
 use Rattle.std.specs.List.{AllByRecursion}
 use Rattle.frozen_model.specs.Bits.{bits, bits_of, field}
 use Rattle.frozen_model.specs.BitLaws.{IsBytes}
 use Rattle.frozen_model.specs.Packing.{Stands}
 use Rattle.frozen_model.proofs.Digits.{bits-injective}
-use Rattle.frozen_model.proofs.Fields.{length-bits, bits-field}
+use Rattle.frozen_model.proofs.Fields.{length-bits, bits-field, field_fits, length_bits_of}
 use Rattle.frozen_laws.proofs.Numbers.{bits_zero}
 
 at_suc : (b xs : List Bool) (at n : ℕ) → Stands b (at + suc n) xs → Stands b (suc at + n) xs
@@ -74,10 +74,6 @@ stands_taken b at n h =
 
 -- ---- bytes
 
-pub length_bits_of : (bs : List ℕ) → length (bits_of bs) ≡ 8 * length bs
-length_bits_of [] = omega arith
-length_bits_of (b ∷ bs) = omega (arith, length_bits_of bs)
-
 bits_of_append : (xs ys : List ℕ) → bits_of (xs ++ ys) ≡ bits_of xs ++ bits_of ys
 bits_of_append [] ys = refl
 bits_of_append (x ∷ xs) ys = ap (λ r. bits 8 x ++ r) (bits_of_append xs ys)
@@ -110,10 +106,6 @@ all_take P (suc n) (x ∷ xs) h = (h.0, all_take P n xs h.1)
 
 -- ---- fields
 
-pub field_below : (bs : List ℕ) (bit w : ℕ) → field bs bit w < 2 ^ w
-unfolding field
-field_below bs bit w = mod_below _ (2 ^ w) (pow_pos w)
-
 -- the number of a field stands there
 pub stands_field : (bs : List ℕ) (bit w : ℕ) → IsBytes bs → bit + w ≤ 8 * length bs → Stands (bits_of bs) bit (bits w (field bs bit w))
 stands_field bs bit w h room =
@@ -123,7 +115,7 @@ stands_field bs bit w h room =
 pub field_is : (bs : List ℕ) (bit w n : ℕ) → IsBytes bs → bit ≤ 8 * length bs → n < 2 ^ w → Stands (bits_of bs) bit (bits w n) → field bs bit w ≡ n
 field_is bs bit w n h inside small s =
     let room : bit + w ≤ 8 * length bs = omega (arith, stands_inside (bits_of bs) (bits w n) bit (omega (arith, length_bits_of bs)) s, length-bits w n, length_bits_of bs) in
-    bits-injective w (field bs bit w) n (field_below bs bit w) small
+    bits-injective w (field bs bit w) n (field_fits bs bit w) small
     (stands_same (bits_of bs) (bits w (field bs bit w)) (bits w n) bit (length-bits w (field bs bit w) ∙ sym (length-bits w n)) (stands_field bs bit w h room) s)
 
 pub stands_zero : (bs : List ℕ) (bit w : ℕ) → IsBytes bs → bit + w ≤ 8 * length bs → field bs bit w ≡ 0 → Stands (bits_of bs) bit (replicate w false)

@@ -5,7 +5,7 @@ use Rattle.frozen_model.specs.Bits.{bits}
 use Rattle.frozen_model.specs.Values.{Value, Values, One, Bytes, Items, Present, NoValue, And, count, Of, one, bytes, items, absent, present, record_of, OfEach, none, more, OfAll, no_part, part}
 use Rattle.frozen_model.specs.Layouts.{Version, Layout, Layouts, OfVersion, AllOfVersion, width, stride, strides, stored, number_of}
 use Rattle.frozen_model.specs.Packing.{extent, bytes_for, padding, distance, range_bits, image, images, image_all, tail, tails, tail_all, block, pack}
-use Rattle.frozen_model.specs.Holding.{RangeFits, HoldsAt, HoldsEach, HoldsAll}
+use Rattle.frozen_laws.specs.Everywhere.{RangeFits, HoldsAt, HoldsEach, HoldsAll}
 use Rattle.frozen_model.proofs.Digits.{digits_below, bits-injective}
 use Rattle.frozen_model.proofs.Fields.{length-bits}
 use Rattle.frozen_laws.proofs.Numbers.{split_same, same_bytes, stored_same}
@@ -31,7 +31,7 @@ mutual
   length_image_all (part {l = l} {v = v} h hs) at = simp (length-append, length_image h at, length_image_all hs (at + extent l v))
 
 -- the counts of two ranges whose bits are the same
-same_count : (d c m n at to : ℕ) → RangeFits d c m at → RangeFits d c n to → range_bits d c m at ≡ range_bits d c n to → m ≡ n
+pub same_count : (d c m n at to : ℕ) → RangeFits d c m at → RangeFits d c n to → range_bits d c m at ≡ range_bits d c n to → m ≡ n
 same_count d c m n at to f g e =
     let parts = split_same (bits d (distance m at)) (bits d (distance n to)) (bits c m) (bits c n) (length-bits d (distance m at) ∙ sym (length-bits d (distance n to))) e in
     bits-injective c m n (digits_below m c f.1) (digits_below n c g.1) parts.1
@@ -50,7 +50,7 @@ block_parts {l} {vs} {us} hs ks r s n t =
     (outer.0, (split_same p q (tails l vs ++ r) (tails l us ++ s) (ap length pq) outer.1).1)
 
 -- a present optional has its flag set
-not_absent : (w n : ℕ) (xs : List Bool) → 1 ≤ w → replicate (w + n) false ≡ bits w 1 ++ xs → ⊥
+pub not_absent : (w n : ℕ) (xs : List Bool) → 1 ≤ w → replicate (w + n) false ≡ bits w 1 ++ xs → ⊥
 not_absent zero n xs h e = omega arith
 not_absent (suc w) n xs h e =
     let more : suc w + n ≡ suc (w + n) = omega arith in
@@ -65,10 +65,10 @@ module _ (n : Version) where
     same_value i (one {x = x} o) (one {x = y} p) a b r s f g e t = (ap One (stored_same x y i o p f g e), t)
     same_value i (bytes {d = d} {c = c} {bs = bs} m o u) (bytes {bs = cs} k p w) a b r s f g e t =
         let both = same_bytes bs cs r s o p (same_count d c (length bs) (length cs) a b f g e) t in (ap Bytes both.0, both.1)
-    same_value i (items {d = d} {c = c} {l = l} {vs = vs} m ri hs) (items {vs = us} k rj ks) a b r s f g e t =
+    same_value i (items {h = h} {d = d} {c = c} {l = l} {vs = vs} m ri hs) (items {vs = us} k rj ks) a b r s f g e t =
         let counts : count vs ≡ count us = same_count d c (count vs) (count us) a b f.0 g.0 e in
         let parts = block_parts hs ks r s counts t in
-        let both = same_values i hs ks (bytes_for (count vs * stride l)) (bytes_for (count us * stride l)) r s f.1 g.1 counts parts.0 parts.1 in (ap Items both.0, both.1)
+        let both = same_values i hs ks (bytes_for (count vs * stride l)) (bytes_for (count us * stride l)) r s f.1 g.1 counts parts.0 parts.1 in (ap (Items h) both.0, both.1)
     same_value i absent absent a b r s f g e t = (refl, t)
     same_value i (absent {w = w} {l = l}) (present {v = u} k) a b r s f g e t = absurd (not_absent w (stride l) (image l u b) g.0 e)
     same_value i (present {w = w} {l = l} {v = v} h) absent a b r s f g e t = absurd (not_absent w (stride l) (image l v a) f.0 (sym e))

@@ -1,15 +1,16 @@
 -- The laws of the frozen form, as statements over the definitions of frozen_model.
-use Rattle.std.specs.Prelude.{◌≡◌, ℕ, ◌+◌, ◌-◌, ◌*◌, ◌^◌, ◌≤◌, ◌<◌, List, [], ◌∷◌, ℤ, length, Result, Ok, IfOk, None, ◌↔◌, suc, pos, ◌-ℤ◌, ◌≤ℤ◌, nat_abs, true}
+use Rattle.std.specs.Prelude.{◌≡◌, ℕ, ◌+◌, ◌-◌, ◌*◌, ◌^◌, ◌≤◌, ◌<◌, List, [], ◌∷◌, ℤ, length, Result, Ok, IfOk, None, ◌↔◌, suc, pos, ◌-ℤ◌, ◌≤ℤ◌, nat_abs, Bool, true}
 use Rattle.std.specs.List.{AllByRecursion}
 use Rattle.frozen_model.specs.Bits.{bits_of, digits}
 use Rattle.frozen_model.specs.BitLaws.{IsBytes}
-use Rattle.frozen_model.specs.Trees.{Scalar, KindTree, HasKeys, Leaf, Blob, Range, Optional, Struct, NoField, Field, Leafwise, Flag, Integer, value_bits, ranges, Alike, greatest, Part}
+use Rattle.frozen_model.specs.Trees.{LeafKind, KindTree, kinds, IsStruct, IsKindTree, IsNarrow, HasKeys, Leaf, ByteRange, ItemRange, Optional, Struct, NoField, Field, Leafwise, Flag, Integer, value_bits, ranges, Alike, greatest, Part}
 use Rattle.frozen_model.specs.Values.{Value, Of, cells, inline_cells, range_cells, cell_limit, Atom, IsOf}
-use Rattle.frozen_model.specs.Layouts.{Version, Layout, IsLayout, OfVersion, Legal, Narrower, stride, Layouts, Version1, Version2, Coded, Unsigned, TwosComplement, FromBase, IsCoded, width, Fits, number_of, atom_of, stored, meaning, in_range}
-use Rattle.frozen_model.specs.Packing.{extent, image, tail, pack, Packs, bytes_for, Stands, Place, place, PartAt}
+use Rattle.frozen_model.specs.Layouts.{Version, Layout, IsLayout, Described, described, MayRelax, IsDescribed, OfVersion, Legal, Narrower, stride, Layouts, Version1, Version2, Coded, Unsigned, TwosComplement, FromBase, IsCoded, width, Fits, number_of, atom_of, stored, meaning, in_range}
+use Rattle.frozen_model.specs.Packing.{extent, image, tail, pack, Packs, packed, bytes_for, Stands, Place, place, PartAt, Lies}
 use Rattle.frozen_model.specs.Walk.{walk, open_content}
-use Rattle.frozen_model.specs.Files.{SchemaFault, File, open_file}
-use Rattle.frozen_model.specs.Holding.{Puts, AllPuts, puts_of, Holds, HoldsAt, greatest_digits, IsStart, Least, pass, passes, Among, IsLeastOf, greatest_need, Blank}
+use Rattle.frozen_model.specs.Files.{SchemaFault, File, open_file, frozen}
+use Rattle.frozen_model.specs.Holding.{Puts, AllPuts, puts_of, Holds, greatest_digits, IsStart, Least, pass, passes, Among, IsLeastOf, greatest_need, Blank, Based}
+use Rattle.frozen_laws.specs.Everywhere.{HoldsAt}
 
 -- ---- wider layouts
 
@@ -25,18 +26,25 @@ pub data NoGreater : List ℕ → List ℕ → Type 0 where
 -- under wider layouts a value puts a number as great or greater at each distance, and the same numbers elsewhere
 abbrev pub DistancesGrow : Type 0
 DistancesGrow = (l m : Layout) (v : Value) → Of l v → Narrower l m
-    → Leafwise (λ (k : Scalar) (xs : List ℤ) (ys : List ℤ). xs ≡ ys) (λ (ms : List ℕ) (ns : List ℕ). NoGreater ms ns) (λ (ms : List ℕ) (ns : List ℕ). ms ≡ ns) (puts_of l v) (puts_of m v)
+    → Leafwise (λ (k : LeafKind) (xs : List ℤ) (ys : List ℤ). xs ≡ ys)
+    (λ (ms : List ℕ) (ns : List ℕ). NoGreater ms ns)
+    (λ (ms : List ℕ) (ns : List ℕ). ms ≡ ns) (puts_of l v) (puts_of m v)
 
 -- so the needs at each leaf are as great or greater
 abbrev pub NeedsGrow : Type 0
 NeedsGrow = (l m : Layout) (v : Value) → Of l v → Narrower l m
-    → Leafwise (λ (k : Scalar) (xs : List ℤ) (ys : List ℤ). xs ≡ ys) (λ (ms : List ℕ) (ns : List ℕ). greatest_digits ms ≤ greatest_digits ns) (λ (ms : List ℕ) (ns : List ℕ). greatest_digits ms ≤ greatest_digits ns) (puts_of l v) (puts_of m v)
+    → Leafwise (λ (k : LeafKind) (xs : List ℤ) (ys : List ℤ). xs ≡ ys)
+    (λ (ms : List ℕ) (ns : List ℕ). greatest_digits ms ≤ greatest_digits ns)
+    (λ (ms : List ℕ) (ns : List ℕ). greatest_digits ms ≤ greatest_digits ns) (puts_of l v) (puts_of m v)
 
 -- ---- measuring
 
 -- where passes come to rest that begin with widths 0 and the least bases, the layout is the least
 abbrev pub RestIsLeast : Type 0
-RestIsLeast = (n : Version) (rounds : ℕ) (l : Layout) (v : Value) → IsStart n l v → pass (passes rounds l v) v ≡ passes rounds l v → Least n (passes rounds l v) v
+RestIsLeast = (n : Version) (relaxed : Bool) (rounds : ℕ) (l : Layout) (v : Value) → MayRelax n relaxed → IsStruct l
+    → IsKindTree l → IsStart n l v
+    → cells l v ≤ cell_limit → pass (passes rounds l v) v ≡ passes rounds l v
+    → Least (described n relaxed (passes rounds l v)) v
 
 -- in version 1 measuring begins with widths 0 and nothing else
 abbrev pub BlankIsStart : Type 0
@@ -44,10 +52,11 @@ BlankIsStart = (l : Layout) (v : Value) → Of l v → OfVersion Version1 l → 
 
 -- a value has one least layout of its kinds and a version
 abbrev pub LeastIsUnique : Type 0
-LeastIsUnique = (n : Version) (l m : Layout) (v : Value) → Alike l m → Least n l v → Least n m v → l ≡ m
+LeastIsUnique = (d e : Described) (v : Value) → d.version ≡ e.version → Alike d.tree e.tree → Least d v → Least e v
+    → d.tree ≡ e.tree
 
 -- the widest leaf of a version for a kind; a base is the least number of the kind
-abbrev pub widest_leaf : Version → Scalar → Coded
+abbrev pub widest_leaf : Version → LeafKind → Coded
 widest_leaf n Flag = Unsigned 1
 widest_leaf Version1 (Integer k) = TwosComplement (suc (value_bits k))
 widest_leaf Version2 (Integer k) = FromBase (pos 0 -ℤ pos (2 ^ value_bits k)) (suc (value_bits k))
@@ -56,8 +65,8 @@ widest_leaf Version2 (Integer k) = FromBase (pos 0 -ℤ pos (2 ^ value_bits k)) 
 abbrev mutual
   pub widest : Version → Layout → Layout
   widest n (Leaf k c) = Leaf k (widest_leaf n k)
-  widest n (Blob t d c) = Blob t 32 32
-  widest n (Range h d c l) = Range h 32 32 (widest n l)
+  widest n (ByteRange t d c) = ByteRange t 32 32
+  widest n (ItemRange h d c l) = ItemRange h 32 32 (widest n l)
   widest n (Optional w l) = Optional 1 (widest n l)
   widest n (Struct ls) = Struct (widest_all n ls)
 
@@ -67,16 +76,24 @@ abbrev mutual
 
 -- it holds every value within the limit of cells, and no leaf of it is too wide
 abbrev pub WidestHolds : Type 0
-WidestHolds = (n : Version) (l : Layout) (v : Value) → Of l v → cells l v ≤ cell_limit → Holds (widest n l) v × Legal (widest n l) × OfVersion n (widest n l)
+WidestHolds = (n : Version) (l : Layout) (v : Value) → Of l v → cells l v ≤ cell_limit
+    → Holds (widest n l) v × Legal (widest n l) × OfVersion n (widest n l)
 
 -- no pass makes a leaf wider than its greatest width
 abbrev pub PassesAreLegal : Type 0
-PassesAreLegal = (n : Version) (rounds : ℕ) (l : Layout) (v : Value) → IsStart n l v → cells l v ≤ cell_limit → Legal (passes rounds l v)
+PassesAreLegal = (n : Version) (rounds : ℕ) (l : Layout) (v : Value) → IsStart n l v → cells l v ≤ cell_limit
+    → Legal (passes rounds l v)
 
 -- passes come to rest after at most 1 and 29 for each range, so measuring has at most 2 and 29 for each
 abbrev pub PassesRest : Type 0
 PassesRest = (n : Version) (l : Layout) (v : Value) → IsStart n l v → cells l v ≤ cell_limit
     → (rounds : ℕ) × (rounds ≤ 1 + 29 * ranges l) × (pass (passes rounds l v) v ≡ passes rounds l v)
+
+-- from the least bases a pass from any layout below one that holds the value stays below it
+abbrev pub PassesStayBelow : Type 0
+PassesStayBelow = (n : Version) (l m : Layout) (v : Value) → OfVersion n l → Based l (puts_of l v) → Narrower l m
+    → OfVersion n m → Holds m v
+    → Narrower (pass l v) m
 
 -- the greatest of the numbers
 abbrev pub IsGreatestOf : ℤ → List ℤ → Type 0
@@ -89,17 +106,30 @@ NeedFromBase = (least greatest : ℤ) (w : ℕ) (xs : List ℤ) → IsLeastOf le
 
 -- in version 1 each number that a leaf can have is in the range of its kind
 abbrev pub AlwaysInRange : Type 0
-AlwaysInRange = (k : Scalar) (c : Coded) (m : ℕ) → IsCoded Version1 k c → width c ≤ greatest k → m < 2 ^ width c → in_range k (meaning c m) ≡ true
+AlwaysInRange = (k : LeafKind) (c : Coded) (m : ℕ) → IsCoded Version1 k c → width c ≤ greatest k → m < 2 ^ width c
+    → in_range k (meaning c m) ≡ true
 
 -- what a leaf stores for a flag or number that fits it has its width, and means that number
 abbrev pub StoredIsRead : Type 0
-StoredIsRead = (n : Version) (k : Scalar) (c : Coded) (x : Atom) → IsCoded n k c → IsOf k x → Fits c (number_of x)
+StoredIsRead = (n : Version) (k : LeafKind) (c : Coded) (x : Atom) → IsCoded n k c → IsOf k x → Fits c (number_of x)
     → (stored c (number_of x) < 2 ^ width c) × (atom_of k (meaning c (stored c (number_of x))) ≡ x)
 
 -- what is read at a leaf, in the range of the kind, is a flag or number that fits it, and is stored so
 abbrev pub ReadIsStored : Type 0
-ReadIsStored = (n : Version) (k : Scalar) (c : Coded) (m : ℕ) → IsCoded n k c → width c ≤ greatest k → m < 2 ^ width c → in_range k (meaning c m) ≡ true
-    → IsOf k (atom_of k (meaning c m)) × Fits c (number_of (atom_of k (meaning c m))) × (stored c (number_of (atom_of k (meaning c m))) ≡ m)
+ReadIsStored = (n : Version) (k : LeafKind) (c : Coded) (m : ℕ) → IsCoded n k c → width c ≤ greatest k
+    → m < 2 ^ width c → in_range k (meaning c m) ≡ true
+    → IsOf k (atom_of k (meaning c m)) × Fits c (number_of (atom_of k (meaning c m)))
+    × (stored c (number_of (atom_of k (meaning c m))) ≡ m)
+
+-- ---- kind trees and strides
+
+-- whether a tree is within the limits does not turn on what stands at its leaves
+abbrev pub KindsDecide : Type 0
+KindsDecide = (l : Layout) → IsKindTree l ↔ IsKindTree (kinds l)
+
+-- a layout takes at most 32767 bits inline, and so does each part of it
+abbrev pub StridesAreSmall : Type 0
+StridesAreSmall = (l s : Layout) (i n : ℕ) → Legal l → IsNarrow l → Part l i s n → stride s ≤ 32767
 
 -- ---- cells
 
@@ -115,8 +145,8 @@ CellsInLayout = (l : Layout) (v : Value) → Of l v → cells l v ≡ inline_cel
 abbrev mutual
   pub EachDistance : (ℕ → Type 0) → Puts → Type 0
   EachDistance P (Leaf k xs) = Unit {0}
-  EachDistance P (Blob t ds cs) = AllByRecursion P ds
-  EachDistance P (Range h ds cs p) = AllByRecursion P ds × EachDistance P p
+  EachDistance P (ByteRange t ds cs) = AllByRecursion P ds
+  EachDistance P (ItemRange h ds cs p) = AllByRecursion P ds × EachDistance P p
   EachDistance P (Optional ws p) = EachDistance P p
   EachDistance P (Struct ps) = EachDistanceAmong P ps
 
@@ -135,13 +165,23 @@ PackingIsBounded = (l : Layout) (v : Value) (bs : List ℕ) → Of l v → Legal
 
 -- and so is each distance
 abbrev pub DistancesAreBounded : Type 0
-DistancesAreBounded = (l : Layout) (v : Value) → Of l v → Legal l → cells l v ≤ cell_limit → EachDistance (λ (d : ℕ). d < 2 ^ 29) (puts_of l v)
+DistancesAreBounded = (l : Layout) (v : Value) → Of l v → Legal l → cells l v ≤ cell_limit
+    → EachDistance (λ (d : ℕ). d < 2 ^ 29) (puts_of l v)
 
 -- ---- packing
 
 -- a layout's packing is of one value
 abbrev pub PackingIsInjective : Type 0
-PackingIsInjective = (n : Version) (l : Layout) (v u : Value) → OfVersion n l → Holds l v → Holds l u → pack l v ≡ pack l u → v ≡ u
+PackingIsInjective = (n : Version) (l : Layout) (v u : Value) → OfVersion n l → Holds l v → Holds l u
+    → pack l v ≡ pack l u → v ≡ u
+
+-- a packing exists as bytes
+abbrev pub PackingExists : Type 0
+PackingExists = (l : Layout) (v : Value) → Of l v → IsBytes (packed l v) × Packs l v (packed l v)
+
+-- and as no other bytes
+abbrev pub PackingIsOne : Type 0
+PackingIsOne = (l : Layout) (v : Value) (bs : List ℕ) → Of l v → IsBytes bs → Packs l v bs → bs ≡ packed l v
 
 -- to hold a value is that each number fits, by recursion over the value
 abbrev pub HoldsEverywhere : Type 0
@@ -153,8 +193,8 @@ EverywhereHolds = (l : Layout) (v : Value) → Of l v → HoldsAt l v (bytes_for
 
 -- ---- the walk
 
--- a value stands in a content: each of its numbers fits, its image stands at the bit, in the block that begins at byte start,
--- and its own blocks stand from byte next on
+-- a value stands in a content: each of its numbers fits, its image stands at the bit, in the block that begins at byte
+-- start, and its own blocks stand from byte next on
 pub record Placed (bs : List ℕ) (l : Layout) (start bit next : ℕ) (v : Value) : Type 0 where
   pub of_kind : Of l v
   pub holds : HoldsAt l v (next - start)
@@ -171,14 +211,17 @@ pub record IsPlace (n : Version) (bs : List ℕ) (l : Layout) (start bit next : 
   pub inside : next ≤ length bs
   pub past : start ≤ next
 
--- what the walk gives stands there; the next block begins behind it, and the cells grew by those of its ranges, within the limit
+-- what the walk gives stands there; the next block begins behind it, and the cells grew by those of its ranges, within
+-- the limit
 abbrev pub WalkIsSound : Type 0
 WalkIsSound = (n : Version) (bs : List ℕ) (l : Layout) (start bit next so_far : ℕ) → IsPlace n bs l start bit next
-    → IfOk (walk bs l start None bit next so_far) (λ x. Placed bs l start bit next x.0 × (x.1 ≡ next + extent l x.0) × (x.2 ≡ so_far + range_cells l x.0) × (so_far ≤ cell_limit → x.2 ≤ cell_limit))
+    → IfOk (walk bs l start None bit next so_far)
+    (λ x. Placed bs l start bit next x.0 × (x.1 ≡ next + extent l x.0) × (x.2 ≡ so_far + range_cells l x.0) × (so_far ≤ cell_limit → x.2 ≤ cell_limit))
 
 -- the walk gives what stands there, within the limit of cells
 abbrev pub WalkIsComplete : Type 0
-WalkIsComplete = (n : Version) (bs : List ℕ) (l : Layout) (start bit next so_far : ℕ) (v : Value) → IsPlace n bs l start bit next
+WalkIsComplete = (n : Version) (bs : List ℕ) (l : Layout) (start bit next so_far : ℕ) (v : Value)
+    → IsPlace n bs l start bit next
     → Placed bs l start bit next v → so_far + range_cells l v ≤ cell_limit
     → walk bs l start None bit next so_far ≡ Ok (v, next + extent l v, so_far + range_cells l v)
 
@@ -193,15 +236,26 @@ pub record StandsAt (bs : List ℕ) (l : Layout) (v : Value) (p : Place) : Type 
 
 -- where a value stands, each part of it stands at the place of the part
 abbrev pub PartsStand : Type 0
-PartsStand = (bs : List ℕ) (l m : Layout) (v u : Value) (q p : Place) → IsBytes bs → StandsAt bs l v q → PartAt m u p l v q → StandsAt bs m u p
+PartsStand = (bs : List ℕ) (l m : Layout) (v u : Value) (q p : Place) → IsBytes bs → StandsAt bs l v q
+    → PartAt m u p l v q → StandsAt bs m u p
 
 -- in the packing of a value each part stands where it lies
 abbrev pub PartsLie : Type 0
-PartsLie = (l m : Layout) (v u : Value) (bs : List ℕ) (p : Place) → IsBytes bs → Holds l v → Packs l v bs → PartAt m u p l v (place 0 0 0 (bytes_for (stride l))) → StandsAt bs m u p
+PartsLie = (l m : Layout) (v u : Value) (bs : List ℕ) (p : Place) → IsBytes bs → Holds l v → Packs l v bs
+    → PartAt m u p l v (place 0 0 0 (bytes_for (stride l))) → StandsAt bs m u p
 
 -- a part of a value stands at a node of its layout
 abbrev pub PartsAreNodes : Type 0
 PartsAreNodes = (l m : Layout) (v u : Value) (q p : Place) → PartAt m u p l v q → Part l q.node m p.node
+
+-- a part has no more cells than its whole
+abbrev pub PartsHaveFewerCells : Type 0
+PartsHaveFewerCells = (l m : Layout) (v u : Value) (q p : Place) → PartAt m u p l v q → cells m u ≤ cells l v
+
+-- at one node, in one block and at one bit of a packing lies one part
+abbrev pub OnePartLies : Type 0
+OnePartLies = (n : Version) (l : Layout) (v u w : Value) (node start bit : ℕ) → OfVersion n l → Holds l v
+    → Lies l v node start bit u → Lies l v node start bit w → u ≡ w
 
 -- ---- opening
 
@@ -213,18 +267,33 @@ pub record IsContent (l : Layout) (v : Value) (bs : List ℕ) : Type 0 where
 
 -- a content is opened as a value exactly where it is that value's
 abbrev pub ContentIsExact : Type 0
-ContentIsExact = (n : Version) (l : Layout) (v : Value) (bs : List ℕ) → IsLayout n l → IsBytes bs → open_content bs l ≡ Ok v ↔ IsContent l v bs
+ContentIsExact = (n : Version) (l : Layout) (v : Value) (bs : List ℕ) → IsLayout n l → IsBytes bs
+    → open_content bs l ≡ Ok v ↔ IsContent l v bs
 
--- schemas are read as layouts
-abbrev pub ReadsLayouts : (List ℕ → Result Layout SchemaFault) → Type 0
-ReadsLayouts read = (s : List ℕ) (l : Layout) → read s ≡ Ok l → (n : Version) × IsLayout n l
+-- ---- files, where Spells s d says that the bytes s are a schema of the layout d
 
--- a file is opened as a layout and a value exactly where it is the frozen file of that value in that layout
-abbrev pub OpeningIsExact : Type 0
-OpeningIsExact = (read : List ℕ → Result Layout SchemaFault) (b : List ℕ) (l : Layout) (v : Value) → ReadsLayouts read → IsBytes b
-    → open_file read b ≡ Ok (l, v) ↔ File read b l v
+-- the bytes of a schema are those of a layout within the limits
+abbrev pub SpellsLayouts : (List ℕ → Described → Type 0) → Type 0
+SpellsLayouts Spells = (s : List ℕ) (d : Described) → Spells s d → IsDescribed d
+
+-- a reader gives a layout exactly where the bytes are a schema of it
+abbrev pub ReadsExactly : (List ℕ → Described → Type 0) → (List ℕ → Result Described SchemaFault) → Type 0
+ReadsExactly Spells read = (s : List ℕ) (d : Described) → IsBytes s → read s ≡ Ok d ↔ Spells s d
+
+-- with such a reader a file is opened as a layout and a value exactly where it is the frozen file of that value in
+-- that layout
+abbrev pub OpeningIsExact : (List ℕ → Described → Type 0) → Type 0
+OpeningIsExact Spells = (read : List ℕ → Result Described SchemaFault) → SpellsLayouts Spells → ReadsExactly Spells read
+    → (b : List ℕ) (d : Described) (v : Value) → IsBytes b → open_file read b ≡ Ok (d, v) ↔ File Spells b d v
 
 -- it is that of one value in one layout
-abbrev pub FilesAreUnique : Type 0
-FilesAreUnique = (read : List ℕ → Result Layout SchemaFault) (b : List ℕ) (l m : Layout) (v u : Value) → ReadsLayouts read → IsBytes b
-    → File read b l v → File read b m u → (l ≡ m) × (v ≡ u)
+abbrev pub FilesAreUnique : (List ℕ → Described → Type 0) → Type 0
+FilesAreUnique Spells = (read : List ℕ → Result Described SchemaFault) → SpellsLayouts Spells → ReadsExactly Spells read
+    → (b : List ℕ) (d e : Described) (v u : Value) → IsBytes b → File Spells b d v → File Spells b e u
+    → (d ≡ e) × (v ≡ u)
+
+-- the frozen file of a value that a layout holds is a file of both, where a schema of the layout is written
+abbrev pub FrozenIsFile : (List ℕ → Described → Type 0) → Type 0
+FrozenIsFile Spells = (write : Described → List ℕ) (d : Described) (v : Value) → Spells (write d) d
+    → length (write d) < 2 ^ 32
+    → Holds d.tree v → cells d.tree v ≤ cell_limit → File Spells (frozen write d v) d v

@@ -2,7 +2,14 @@
 #![tactic(auto)]
 
 ghost use Rattle.frozen_laws.specs.Rows.{LeastInVersion1, LeastInVersion2};
-ghost use Rattle.frozen_laws.specs.Laws.{ExtentsGrow, DistancesGrow, NeedsGrow, RestIsLeast, LeastIsUnique, BlankIsStart, CellsByRanges, CellsInLayout, ExtentsAreBounded, DistancesAreBounded, HoldsEverywhere, EverywhereHolds, PackingIsInjective, WalkIsSound, WalkIsComplete, ContentIsExact, OpeningIsExact, FilesAreUnique, PartsStand, PartsLie, PartsAreNodes, PackingIsBounded, WidestHolds, PassesAreLegal, PassesRest, NeedFromBase, AlwaysInRange, StoredIsRead, ReadIsStored};
+ghost use Rattle.frozen_laws.specs.Laws.{ExtentsGrow, DistancesGrow, NeedsGrow, RestIsLeast, BlankIsStart, LeastIsUnique};
+ghost use Rattle.frozen_laws.specs.Laws.{WidestHolds, PassesAreLegal, PassesRest, PassesStayBelow};
+ghost use Rattle.frozen_laws.specs.Laws.{StoredIsRead, ReadIsStored, AlwaysInRange, NeedFromBase};
+ghost use Rattle.frozen_laws.specs.Laws.{KindsDecide, StridesAreSmall, CellsByRanges, CellsInLayout};
+ghost use Rattle.frozen_laws.specs.Laws.{ExtentsAreBounded, PackingIsBounded, DistancesAreBounded, HoldsEverywhere, EverywhereHolds};
+ghost use Rattle.frozen_laws.specs.Laws.{PackingIsInjective, PackingExists, PackingIsOne, WalkIsSound, WalkIsComplete};
+ghost use Rattle.frozen_laws.specs.Laws.{PartsStand, PartsLie, PartsAreNodes, PartsHaveFewerCells, OnePartLies};
+ghost use Rattle.frozen_laws.specs.Laws.{ContentIsExact, OpeningIsExact, FilesAreUnique, FrozenIsFile};
 
 /// Under wider layouts the extents, the distances and the needs of a value are as great or greater.
 pub fn extents_grow()
@@ -18,21 +25,31 @@ pub fn rest_is_least()
     ensures unique { LeastIsUnique }
 {}
 
-/// Within the limit of cells the widest layout holds every value of its kinds, no pass makes a leaf wider than its greatest width, and
-/// passes come to rest after at most 1 and 29 for each range.
+/// Within the limit of cells the widest layout holds every value of its kinds, no pass makes a leaf wider than its
+/// greatest width, and passes come to rest after at most 1 and 29 for each range. From the least bases a pass stays
+/// below each layout that holds the value.
 pub fn passes_rest()
     ensures widest { WidestHolds }
     ensures legal { PassesAreLegal }
     ensures bound { PassesRest }
+    ensures below { PassesStayBelow }
 {}
 
-/// What a leaf stores for a flag or number means it again, and what is read at a leaf is what it stores; in version 1 it is always in
-/// the range of its kind. From the least number as base a leaf needs the digits of the greatest less the least.
+/// What a leaf stores for a flag or number means it again, and what is read at a leaf is what it stores; in version 1
+/// it is always in the range of its kind. From the least number as base a leaf needs the digits of the greatest less
+/// the least.
 pub fn leaves_are_read()
     ensures stored { StoredIsRead }
     ensures read { ReadIsStored }
     ensures range { AlwaysInRange }
     ensures base { NeedFromBase }
+{}
+
+/// Whether a tree is within the limits is for its kinds to say, and a layout within them takes at most 32,767 bits
+/// inline, as does each part of it.
+pub fn strides_are_small()
+    ensures kinds { KindsDecide }
+    ensures strides { StridesAreSmall }
 {}
 
 /// The cells of a value are the inline cells of its kind tree and, over its ranges, the count times the unit.
@@ -59,6 +76,12 @@ pub fn packing_is_injective()
     ensures { PackingIsInjective }
 {}
 
+/// The packing of a value exists as bytes, and as no other bytes.
+pub fn packing_is_bytes()
+    ensures some { PackingExists }
+    ensures one { PackingIsOne }
+{}
+
 /// What the walk gives stands where it was read.
 pub fn walk_is_sound()
     ensures { WalkIsSound }
@@ -69,19 +92,32 @@ pub fn walk_is_complete()
     ensures { WalkIsComplete }
 {}
 
-/// A content or a file is opened exactly where it is the packing of the value given, in a layout that holds it, and a file is that
-/// of one value in one layout.
-pub fn opening_is_exact()
+/// A form of schemas: which bytes are a schema of which layout.
+pub trait Schemas {
+    ghost use Rattle.std.specs.Prelude.{ℕ, List};
+    ghost use Rattle.frozen_model.specs.Layouts.{Described};
+
+    ghost spells: { List ℕ → Described → Type 0 };
+}
+
+/// A content or a file is opened exactly where it is the packing of the value given, in a layout that holds it, and a
+/// file is that of one value in one layout. This is so for each form of schemas and each reader that is exact for it.
+/// The frozen file of a value is a file of it.
+pub fn opening_is_exact<S: Schemas>()
     ensures content { ContentIsExact }
-    ensures files { OpeningIsExact }
-    ensures unique { FilesAreUnique }
+    ensures files { OpeningIsExact S.spells }
+    ensures unique { FilesAreUnique S.spells }
+    ensures frozen { FrozenIsFile S.spells }
 {}
 
-/// Where a value stands each part of it stands at its own place; so it does in the value's packing.
+/// Where a value stands each part of it stands at its own place; so it does in the value's packing, and one part alone
+/// lies at a place. A part has no more cells than its whole.
 pub fn parts_stand()
     ensures anywhere { PartsStand }
     ensures packed { PartsLie }
     ensures nodes { PartsAreNodes }
+    ensures one { OnePartLies }
+    ensures cells { PartsHaveFewerCells }
 {}
 
 /// The layouts of the worked rows are the least of their values.

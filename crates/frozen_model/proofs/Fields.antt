@@ -18,6 +18,10 @@ pub length-bits : (w n : ℕ) → length (bits w n) ≡ w
 length-bits zero n = refl
 length-bits (suc w) n = ap suc (length-bits w (n / 2))
 
+pub length_bits_of : (bs : List ℕ) → length (bits_of bs) ≡ 8 * length bs
+length_bits_of [] = omega arith
+length_bits_of (b ∷ bs) = omega (arith, length_bits_of bs)
+
 -- the w lowest digits are those of the remainder
 pub bits-mod : (w n : ℕ) → bits w (n % 2 ^ w) ≡ bits w n
 bits-mod zero n = refl
@@ -85,8 +89,8 @@ bits-field bs bit w h inside =
     ∙ sym (bits-mod w (number bs / 2 ^ bit))
 
 -- the number after a field was replaced, in its three parts
-parts : (P Q L F H x m n : ℕ) → m ≡ (H * Q + F) * P + L → n + F * P ≡ m + x * P → n ≡ (H * Q + x) * P + L
-parts P Q L F H x m n is step = omega arith
+pub replaced_parts : (P Q L F H x m n : ℕ) → m ≡ (H * Q + F) * P + L → n + F * P ≡ m + x * P → n ≡ (H * Q + x) * P + L
+replaced_parts P Q L F H x m n is step = omega arith
 
 -- where a number replaces a field, its bits stand there and all others stay
 pub bits-replaced : (old new : List ℕ) (bit w x : ℕ) → IsBytes old → IsBytes new → length new ≡ length old → bit + w ≤ 8 * length old → x < 2 ^ w
@@ -105,7 +109,7 @@ bits-replaced old new bit w x ho hn long inside fits step =
     let L : ℕ = m % 2 ^ bit in
     let is : m ≡ (H * 2 ^ w + F) * 2 ^ bit + L =
     sym (shr_split m bit) ∙ ap (λ z. z * 2 ^ bit + L) (sym (shr_split (m / 2 ^ bit) w)) in
-    let sum : n ≡ (H * 2 ^ w + x) * 2 ^ bit + L = parts (2 ^ bit) (2 ^ w) L F H x m n is step in
+    let sum : n ≡ (H * 2 ^ w + x) * 2 ^ bit + L = replaced_parts (2 ^ bit) (2 ^ w) L F H x m n is step in
     let low_fits : L < 2 ^ bit = mod_below m (2 ^ bit) (pow_pos bit) in
     let low : n % 2 ^ bit ≡ m % 2 ^ bit = ap (λ z. z % 2 ^ bit) sum ∙ mod_low (H * 2 ^ w + x) bit L low_fits in
     let up : n / 2 ^ bit ≡ H * 2 ^ w + x = ap (λ z. z / 2 ^ bit) sum ∙ shr_high (H * 2 ^ w + x) bit L low_fits in

@@ -8,7 +8,8 @@ IsBytes bs = (k : ℕ) → slice_index bs k < 256
 
 -- the bits of a field stand at its place
 abbrev pub FieldIsBits : Type 0
-FieldIsBits = (bs : List ℕ) (bit w : ℕ) → IsBytes bs → bit + w ≤ 8 * length bs → bits w (field bs bit w) ≡ take w (drop bit (bits_of bs))
+FieldIsBits = (bs : List ℕ) (bit w : ℕ) → IsBytes bs → bit + w ≤ 8 * length bs
+    → bits w (field bs bit w) ≡ take w (drop bit (bits_of bs))
 
 -- numbers of w bits with the same digits are one
 abbrev pub BitsAreInjective : Type 0
@@ -20,7 +21,8 @@ UnsignedNeedIsLeast = (x w : ℕ) → (need_unsigned x ≤ w) ↔ (x < 2 ^ w)
 
 -- so does a signed one, where width 0 holds 0 alone
 abbrev pub SignedNeedIsLeast : Type 0
-SignedNeedIsLeast = (x : ℤ) (w : ℕ) → 1 ≤ w → (need_signed x ≤ w) ↔ (((pos 0 -ℤ pos (2 ^ (w - 1))) ≤ℤ x) × (x <ℤ pos (2 ^ (w - 1))))
+SignedNeedIsLeast = (x : ℤ) (w : ℕ) → 1 ≤ w
+    → (need_signed x ≤ w) ↔ (((pos 0 -ℤ pos (2 ^ (w - 1))) ≤ℤ x) × (x <ℤ pos (2 ^ (w - 1))))
 
 abbrev pub OnlyZeroNeedsNone : Type 0
 OnlyZeroNeedsNone = (x : ℤ) → (need_signed x ≤ 0) ↔ (x ≡ pos 0)

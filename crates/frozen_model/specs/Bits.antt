@@ -1,5 +1,5 @@
 -- Binary digits: a number as a list of bits, the bits of bytes, and how many bits a number needs.
-use Rattle.std.specs.Prelude.{ℕ, zero, suc, ◌+◌, ◌-◌, ◌*◌, ◌/◌, ◌%◌, ◌^◌, List, [], ◌∷◌, ◌++◌, Bool, ℤ, pos, negsuc, nat_eq, nat_lt, if◌then◌else◌}
+use Rattle.std.specs.Prelude.{ℕ, zero, suc, ◌+◌, ◌-◌, ◌*◌, ◌/◌, ◌%◌, ◌^◌, List, [], ◌∷◌, ◌++◌, Bool, ℤ, pos, negsuc, nat_eq, nat_lt, if◌then◌else◌, take, drop}
 
 -- the w lowest binary digits of n, the lowest first
 abbrev pub bits : ℕ → ℕ → List Bool
@@ -16,6 +16,16 @@ abbrev pub complement : ℕ → ℤ → ℕ
 complement w (pos n) = n
 complement w (negsuc n) = 2 ^ w - suc n
 
+-- the number whose binary digits are those bits, the lowest first
+abbrev pub number_of_bits : List Bool → ℕ
+number_of_bits [] = 0
+number_of_bits (b ∷ bs) = (if b then 1 else 0) + 2 * number_of_bits bs
+
+-- the bytes of so many times eight bits
+abbrev pub bytes_of : ℕ → List Bool → List ℕ
+bytes_of zero bs = []
+bytes_of (suc n) bs = number_of_bits (take 8 bs) ∷ bytes_of n (drop 8 bs)
+
 -- the number of binary digits of n, where depth is at least n: 0 for 0, else one more than those of its half
 abbrev pub count_digits : ℕ → ℕ → ℕ
 count_digits zero n = 0
@@ -30,7 +40,8 @@ digits n = count_digits n n
 abbrev pub need_unsigned : ℕ → ℕ
 need_unsigned n = digits n
 
--- the bits that a signed number needs in two's complement: none for 0, else its digits, or those of -1 - x below 0, and a sign
+-- the bits that a signed number needs in two's complement: none for 0, else its digits, or those of -1 - x below 0,
+-- and a sign
 abbrev pub need_signed : ℤ → ℕ
 need_signed (pos zero) = 0
 need_signed (pos (suc n)) = suc (digits (suc n))

@@ -1,20 +1,22 @@
 -- Files: the bytes of a header, a schema and a content, and what is wrong with other bytes.
-use Rattle.std.specs.Prelude.{◌≡◌, ℕ, ◌-◌, ◌≤◌, List, [], ◌∷◌, ◌++◌, Bool, true, false, ◌&&◌, length, nat_le, take, drop, Result, Ok, Err, ℤ}
+use Rattle.std.specs.Prelude.{◌≡◌, ℕ, ◌-◌, ◌/◌, ◌%◌, ◌≤◌, List, [], ◌∷◌, ◌++◌, Bool, true, false, ◌&&◌, length, nat_le, take, drop, Result, Ok, Err, ℤ}
 use Rattle.std.specs.Str.{bytes_eq}
 use Rattle.frozen_model.specs.Bits.{number}
 use Rattle.frozen_model.specs.Values.{Value, cells, cell_limit}
-use Rattle.frozen_model.specs.Layouts.{Layout}
-use Rattle.frozen_model.specs.Packing.{Packs}
+use Rattle.frozen_model.specs.Layouts.{Described}
+use Rattle.frozen_model.specs.Packing.{Packs, packed}
 use Rattle.frozen_model.specs.Holding.{Holds}
 use Rattle.frozen_model.specs.Walk.{Fault, Short, open_content}
 
--- what can be wrong with bytes that should be one Compact struct: they end within it, a byte begins nothing, bytes follow it
+-- what can be wrong with bytes that should be one Compact struct: they end within it, a byte begins nothing, bytes
+-- follow it
 pub data SpellingFault : Type 0 where
   Truncated : SpellingFault
   Malformed : ℕ → SpellingFault
   Trailing : ℕ → SpellingFault
 
--- what can be wrong with a schema: its spelling, the fields at a node of it, its version, its tree at a node of the layout
+-- what can be wrong with a schema: its spelling, the fields at a node of it, its version, its tree at a node of the
+-- layout
 pub data SchemaFault : Type 0 where
   Spelling : SpellingFault → SchemaFault
   Fields : ℕ → SchemaFault
@@ -39,8 +41,8 @@ abbrev pub schema_length : List ℕ → ℕ
 schema_length b = number (take 4 (drop 4 b))
 
 -- the bytes of the schema
-abbrev pub schema_of : List ℕ → List ℕ
-schema_of b = take (schema_length b) (drop 8 b)
+abbrev pub schema_bytes : List ℕ → List ℕ
+schema_bytes b = take (schema_length b) (drop 8 b)
 
 -- the bytes of the content, which go to the end of the file
 abbrev pub content_of : List ℕ → List ℕ
@@ -52,28 +54,38 @@ demand true e r = r
 demand false e r = Err e
 
 -- what follows an answer, or its fault
-abbrev pub answered : {F E X Y : Type 0} → Result X E → (E → FileFault F) → (X → Result Y (FileFault F)) → Result Y (FileFault F)
+abbrev pub answered : {F E X Y : Type 0} → Result X E → (E → FileFault F) → (X → Result Y (FileFault F))
+    → Result Y (FileFault F)
 answered (Ok x) e f = f x
 answered (Err r) e f = Err (e r)
 
 -- the layout and the value of a file, or its first fault, where schemas are read by read
-abbrev pub open_file : {F : Type 0} → (List ℕ → Result Layout F) → List ℕ → Result (Layout × Value) (FileFault F)
+abbrev pub open_file : {F : Type 0} → (List ℕ → Result Described F) → List ℕ → Result (Described × Value) (FileFault F)
 open_file read b =
     demand (nat_le 8 (length b) && bytes_eq (take 4 b) magic) NotFrozen
     (demand (nat_le (schema_length b) (length b - 8)) (BadContent Short)
-    (answered (read (schema_of b)) BadSchema (λ l.
-    answered (open_content (content_of b) l) BadContent (λ v. Ok (l, v)))))
+    (answered (read (schema_bytes b)) BadSchema (λ d.
+    answered (open_content (content_of b) d.tree) BadContent (λ v. Ok (d, v)))))
 
--- the bytes are a frozen file of the value in the layout: the magic, the length of the schema in four bytes, a schema that is
--- read as the layout, and the value's packing; the layout holds the value, which is within the limit of cells
-pub record File {F : Type 0} (read : List ℕ → Result Layout F) (b : List ℕ) (l : Layout) (v : Value) : Type 0 where
+-- The bytes are a frozen file of the value in the layout, where Spells s d says that the bytes s are a schema of the
+-- layout d: the magic, the length of the schema in four bytes, a schema of the layout, and the value's packing; the
+-- layout holds the value, which is within the limit of cells.
+pub record File (Spells : List ℕ → Described → Type 0) (b : List ℕ) (d : Described) (v : Value) : Type 0 where
   pub size : List ℕ
   pub schema : List ℕ
   pub content : List ℕ
   pub joined : b ≡ magic ++ (size ++ (schema ++ content))
   pub four : length size ≡ 4
   pub sized : number size ≡ length schema
-  pub schema_read : read schema ≡ Ok l
-  pub holds : Holds l v
-  pub within : cells l v ≤ cell_limit
-  pub packed : Packs l v content
+  pub spelled : Spells schema d
+  pub holds : Holds d.tree v
+  pub within : cells d.tree v ≤ cell_limit
+  pub packed : Packs d.tree v content
+
+-- four bytes that write a number below 2 ^ 32, the lowest byte first
+abbrev pub four_bytes : ℕ → List ℕ
+four_bytes n = n % 256 ∷ n / 256 % 256 ∷ n / 65536 % 256 ∷ n / 16777216 % 256 ∷ []
+
+-- the frozen file of a value in a layout, where write gives the bytes of the layout's schema
+abbrev pub frozen : (Described → List ℕ) → Described → Value → List ℕ
+frozen write d v = magic ++ (four_bytes (length (write d)) ++ (write d ++ packed d.tree v))

@@ -1,10 +1,11 @@
--- What a layout must hold: the numbers that packing puts at each leaf, the layouts that hold a value, and the least one.
+-- What a layout must hold: the numbers that packing puts at each leaf, the layouts that hold a value, and the least
+-- one.
 use Rattle.std.specs.Prelude.{◌≡◌, ℕ, zero, suc, ◌+◌, ◌*◌, ◌≤◌, max, List, [], ◌∷◌, ◌++◌, ℤ, pos, ◌≤ℤ◌, length, ◌⊎◌}
 use Rattle.std.specs.List.{AllByRecursion}
-use Rattle.frozen_model.specs.Bits.{digits, need_unsigned}
-use Rattle.frozen_model.specs.Trees.{Scalar, Tree, Trees, Leaf, Blob, Range, Optional, Struct, NoField, Field, Leafwise, Alike}
+use Rattle.frozen_model.specs.Bits.{need_unsigned}
+use Rattle.frozen_model.specs.Trees.{LeafKind, Tree, Trees, Leaf, ByteRange, ItemRange, Optional, Struct, NoField, Field, Leafwise, Alike}
 use Rattle.frozen_model.specs.Values.{Value, Values, One, Bytes, Items, Present, Record, NoValue, And, count, Of}
-use Rattle.frozen_model.specs.Layouts.{Version, Coded, Unsigned, TwosComplement, FromBase, Layout, Layouts, OfVersion, Narrower, width, with_width, stride, need, number_of, Fits}
+use Rattle.frozen_model.specs.Layouts.{Version, Coded, Unsigned, TwosComplement, FromBase, Layout, Layouts, Described, IsDescribed, OfVersion, Narrower, width, with_width, stride, need, number_of, Fits}
 use Rattle.frozen_model.specs.Packing.{extent, bytes_for, distance}
 
 -- at each leaf the list of the numbers that packing puts there, before they are cut to a width
@@ -19,8 +20,8 @@ AllPuts = Trees (List ℤ) (List ℕ)
 abbrev mutual
   pub no_puts : {A B : Type 0} → Tree A B → Puts
   no_puts (Leaf k a) = Leaf k []
-  no_puts (Blob t d c) = Blob t [] []
-  no_puts (Range h d c l) = Range h [] [] (no_puts l)
+  no_puts (ByteRange t d c) = ByteRange t [] []
+  no_puts (ItemRange h d c l) = ItemRange h [] [] (no_puts l)
   no_puts (Optional w l) = Optional [] (no_puts l)
   no_puts (Struct ls) = Struct (no_puts_all ls)
 
@@ -32,8 +33,8 @@ abbrev mutual
 abbrev mutual
   pub both : Puts → Puts → Puts
   both (Leaf k xs) (Leaf j ys) = Leaf k (xs ++ ys)
-  both (Blob t d c) (Blob u e f) = Blob t (d ++ e) (c ++ f)
-  both (Range h d c l) (Range g e f m) = Range h (d ++ e) (c ++ f) (both l m)
+  both (ByteRange t d c) (ByteRange u e f) = ByteRange t (d ++ e) (c ++ f)
+  both (ItemRange h d c l) (ItemRange g e f m) = ItemRange h (d ++ e) (c ++ f) (both l m)
   both (Optional w l) (Optional v m) = Optional (w ++ v) (both l m)
   both (Struct ls) (Struct ms) = Struct (both_all ls ms)
   both l _ = l
@@ -42,13 +43,14 @@ abbrev mutual
   both_all (Field i l ls) (Field j m ms) = Field i (both l m) (both_all ls ms)
   both_all ls _ = ls
 
--- the numbers that a value puts at each leaf, where its first own block begins at bytes after the start of the block that
--- it lies in; an absent optional puts none
+-- the numbers that a value puts at each leaf, where its first own block begins at bytes after the start of the block
+-- that it lies in; an absent optional puts none
 abbrev mutual
   pub puts : Layout → Value → ℕ → Puts
   puts (Leaf k c) (One x) at = Leaf k (number_of x ∷ [])
-  puts (Blob t d c) (Bytes bs) at = Blob t (distance (length bs) at ∷ []) (length bs ∷ [])
-  puts (Range h d c l) (Items vs) at = Range h (distance (count vs) at ∷ []) (count vs ∷ []) (puts_each l vs (bytes_for (count vs * stride l)))
+  puts (ByteRange t d c) (Bytes bs) at = ByteRange t (distance (length bs) at ∷ []) (length bs ∷ [])
+  puts (ItemRange h d c l) (Items g vs) at =
+      ItemRange h (distance (count vs) at ∷ []) (count vs ∷ []) (puts_each l vs (bytes_for (count vs * stride l)))
   puts (Optional w l) (Present v) at = Optional (1 ∷ []) (puts l v at)
   puts (Struct ls) (Record ids vs) at = Struct (puts_all ls vs at)
   puts l _ at = no_puts l
@@ -67,34 +69,14 @@ puts_of l v = puts l v (bytes_for (stride l))
 
 -- each number fits its leaf
 abbrev pub AllFit : Layout → Puts → Type 0
-AllFit l p = Leafwise (λ (k : Scalar) (c : Coded) (xs : List ℤ). AllByRecursion (Fits c) xs) (λ (w : ℕ) (ns : List ℕ). AllByRecursion (λ (n : ℕ). need_unsigned n ≤ w) ns) (λ (w : ℕ) (ns : List ℕ). AllByRecursion (λ (n : ℕ). need_unsigned n ≤ w) ns) l p
+AllFit l p = Leafwise (λ (k : LeafKind) (c : Coded) (xs : List ℤ). AllByRecursion (Fits c) xs)
+    (λ (w : ℕ) (ns : List ℕ). AllByRecursion (λ (n : ℕ). need_unsigned n ≤ w) ns)
+    (λ (w : ℕ) (ns : List ℕ). AllByRecursion (λ (n : ℕ). need_unsigned n ≤ w) ns) l p
 
 -- the layout has the value's form, and each number that packing puts fits its leaf
 pub record Holds (l : Layout) (v : Value) : Type 0 where
   pub of_kind : Of l v
   pub fits : AllFit l (puts_of l v)
-
--- a range's distance and count fit their widths
-abbrev pub RangeFits : ℕ → ℕ → ℕ → ℕ → Type 0
-RangeFits d c n at = (digits (distance n at) ≤ d) × (digits n ≤ c)
-
--- the same by recursion over the value, where its first own block begins at bytes after the start of the block that it lies in
-abbrev mutual
-  pub HoldsAt : Layout → Value → ℕ → Type 0
-  HoldsAt (Leaf k c) (One x) at = Fits c (number_of x)
-  HoldsAt (Blob t d c) (Bytes bs) at = RangeFits d c (length bs) at
-  HoldsAt (Range h d c l) (Items vs) at = RangeFits d c (count vs) at × HoldsEach l vs (bytes_for (count vs * stride l))
-  HoldsAt (Optional w l) (Present v) at = (1 ≤ w) × HoldsAt l v at
-  HoldsAt (Struct ls) (Record ids vs) at = HoldsAll ls vs at
-  HoldsAt _ _ at = Unit {0}
-
-  pub HoldsEach : Layout → Values → ℕ → Type 0
-  HoldsEach l NoValue at = Unit {0}
-  HoldsEach l (And v vs) at = HoldsAt l v at × HoldsEach l vs (at + extent l v)
-
-  pub HoldsAll : Layouts → Values → ℕ → Type 0
-  HoldsAll (Field i l ls) (And v vs) at = HoldsAt l v at × HoldsAll ls vs (at + extent l v)
-  HoldsAll _ _ at = Unit {0}
 
 -- ---- the least layout
 
@@ -110,7 +92,8 @@ greatest_digits (n ∷ ns) = max (need_unsigned n) (greatest_digits ns)
 
 -- each leaf is as wide as the greatest need of its numbers
 abbrev pub Tight : Layout → Puts → Type 0
-Tight l p = Leafwise (λ (k : Scalar) (c : Coded) (xs : List ℤ). width c ≡ greatest_need c xs) (λ (w : ℕ) (ns : List ℕ). w ≡ greatest_digits ns) (λ (w : ℕ) (ns : List ℕ). w ≡ greatest_digits ns) l p
+Tight l p = Leafwise (λ (k : LeafKind) (c : Coded) (xs : List ℤ). width c ≡ greatest_need c xs)
+    (λ (w : ℕ) (ns : List ℕ). w ≡ greatest_digits ns) (λ (w : ℕ) (ns : List ℕ). w ≡ greatest_digits ns) l p
 
 -- one of the numbers
 abbrev pub Among : ℤ → List ℤ → Type 0
@@ -130,16 +113,18 @@ IsBasedOn (FromBase b w) xs = IsLeastOf b xs
 
 -- each base is the least number there
 abbrev pub Based : Layout → Puts → Type 0
-Based l p = Leafwise (λ (k : Scalar) (c : Coded) (xs : List ℤ). IsBasedOn c xs) (λ (w : ℕ) (ns : List ℕ). Unit {0}) (λ (w : ℕ) (ns : List ℕ). Unit {0}) l p
+Based l p = Leafwise (λ (k : LeafKind) (c : Coded) (xs : List ℤ). IsBasedOn c xs) (λ (w : ℕ) (ns : List ℕ). Unit {0})
+    (λ (w : ℕ) (ns : List ℕ). Unit {0}) l p
 
--- the least layout of a version for a value: it holds the value; no layout of its kinds and version that holds the value
--- is narrower at any leaf, whatever its bases; each base is the least number there; each leaf is as wide as its needs
-pub record Least (n : Version) (l : Layout) (v : Value) : Type 0 where
-  pub coded : OfVersion n l
-  pub holds : Holds l v
-  pub least : (m : Layout) → Alike l m → OfVersion n m → Holds m v → Narrower l m
-  pub based : Based l (puts_of l v)
-  pub tight : Tight l (puts_of l v)
+-- The least layout for a value: it is within the limits and holds the value; no layout of its kinds and version that
+-- holds the value is narrower at any leaf, whatever its bases; each base is the least number there; each leaf is as
+-- wide as its needs.
+pub record Least (d : Described) (v : Value) : Type 0 where
+  pub is_layout : IsDescribed d
+  pub holds : Holds d.tree v
+  pub least : (m : Layout) → Alike d.tree m → OfVersion d.version m → Holds m v → Narrower d.tree m
+  pub based : Based d.tree (puts_of d.tree v)
+  pub tight : Tight d.tree (puts_of d.tree v)
 
 -- ---- measuring
 
@@ -147,8 +132,9 @@ pub record Least (n : Version) (l : Layout) (v : Value) : Type 0 where
 abbrev mutual
   pub widened : Layout → Puts → Layout
   widened (Leaf k c) (Leaf j xs) = Leaf k (with_width c (max (width c) (greatest_need c xs)))
-  widened (Blob t d c) (Blob u ds cs) = Blob t (max d (greatest_digits ds)) (max c (greatest_digits cs))
-  widened (Range h d c l) (Range g ds cs p) = Range h (max d (greatest_digits ds)) (max c (greatest_digits cs)) (widened l p)
+  widened (ByteRange t d c) (ByteRange u ds cs) = ByteRange t (max d (greatest_digits ds)) (max c (greatest_digits cs))
+  widened (ItemRange h d c l) (ItemRange g ds cs p) =
+      ItemRange h (max d (greatest_digits ds)) (max c (greatest_digits cs)) (widened l p)
   widened (Optional w l) (Optional ws p) = Optional (max w (greatest_digits ws)) (widened l p)
   widened (Struct ls) (Struct ps) = Struct (widened_all ls ps)
   widened l _ = l
@@ -170,8 +156,8 @@ passes (suc n) l v = passes n (pass l v) v
 abbrev mutual
   pub Blank : Layout → Type 0
   Blank (Leaf k c) = width c ≡ 0
-  Blank (Blob t d c) = (d ≡ 0) × (c ≡ 0)
-  Blank (Range h d c l) = (d ≡ 0) × (c ≡ 0) × Blank l
+  Blank (ByteRange t d c) = (d ≡ 0) × (c ≡ 0)
+  Blank (ItemRange h d c l) = (d ≡ 0) × (c ≡ 0) × Blank l
   Blank (Optional w l) = (w ≡ 0) × Blank l
   Blank (Struct ls) = AllBlank ls
 
@@ -179,7 +165,8 @@ abbrev mutual
   AllBlank NoField = Unit {0}
   AllBlank (Field i l ls) = Blank l × AllBlank ls
 
--- what measuring a value begins with: a layout of the version and of its kinds with widths 0, where each base is the least number
+-- what measuring a value begins with: a layout of the version and of its kinds with widths 0, where each base is the
+-- least number
 pub record IsStart (n : Version) (l : Layout) (v : Value) : Type 0 where
   pub of_kind : Of l v
   pub coded : OfVersion n l

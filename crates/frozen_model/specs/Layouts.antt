@@ -1,7 +1,7 @@
 -- Layouts: a kind tree with the way in which each leaf stores its number, and in how many bits.
-use Rattle.std.specs.Prelude.{ℕ, ◌+◌, ◌^◌, ◌≤◌, List, Bool, true, false, cond, ℤ, pos, negsuc, ◌+ℤ◌, ◌-ℤ◌, ◌≤ℤ◌, nat_abs, nat_eq, nat_lt}
+use Rattle.std.specs.Prelude.{◌≡◌, ℕ, ◌+◌, ◌^◌, ◌≤◌, List, Bool, true, false, cond, ℤ, pos, negsuc, ◌+ℤ◌, ◌-ℤ◌, ◌≤ℤ◌, nat_abs, nat_eq, nat_lt}
 use Rattle.frozen_model.specs.Bits.{bits, need_unsigned, need_signed, complement, signed}
-use Rattle.frozen_model.specs.Trees.{Scalar, Flag, Integer, Tree, Trees, Leaf, Blob, Range, Optional, Struct, NoField, Field, Leafwise, AllLeafwise, IsKindTree, greatest, value_bits}
+use Rattle.frozen_model.specs.Trees.{LeafKind, Flag, Integer, Tree, Trees, Leaf, ByteRange, ItemRange, Optional, Struct, NoField, Field, Leafwise, AllLeafwise, IsStruct, IsKindTree, greatest, value_bits}
 use Rattle.frozen_model.specs.Values.{Atom, Truth, Number, InBits}
 
 -- the two versions of the form
@@ -28,7 +28,7 @@ with_width (TwosComplement w) v = TwosComplement v
 with_width (FromBase b w) v = FromBase b v
 
 -- flags are unsigned; whole numbers are in two's complement in version 1, and above a base of their kind in version 2
-pub data IsCoded : Version → Scalar → Coded → Type 0 where
+pub data IsCoded : Version → LeafKind → Coded → Type 0 where
   flag_coded : {v : Version} {w : ℕ} → IsCoded v Flag (Unsigned w)
   signed_coded : {k : _} {w : ℕ} → IsCoded Version1 (Integer k) (TwosComplement w)
   based_coded : {k : _} {b : ℤ} {w : ℕ} → InBits (value_bits k) b → IsCoded Version2 (Integer k) (FromBase b w)
@@ -45,8 +45,8 @@ Layouts = Trees Coded ℕ
 abbrev mutual
   pub OfVersion : Version → Layout → Type 0
   OfVersion n (Leaf k c) = IsCoded n k c
-  OfVersion n (Blob t d c) = Unit {0}
-  OfVersion n (Range h d c l) = OfVersion n l
+  OfVersion n (ByteRange t d c) = Unit {0}
+  OfVersion n (ItemRange h d c l) = OfVersion n l
   OfVersion n (Optional w l) = OfVersion n l
   OfVersion n (Struct ls) = AllOfVersion n ls
 
@@ -58,8 +58,8 @@ abbrev mutual
 abbrev mutual
   pub Legal : Layout → Type 0
   Legal (Leaf k c) = width c ≤ greatest k
-  Legal (Blob t d c) = (d ≤ 32) × (c ≤ 32)
-  Legal (Range h d c l) = (d ≤ 32) × (c ≤ 32) × Legal l
+  Legal (ByteRange t d c) = (d ≤ 32) × (c ≤ 32)
+  Legal (ItemRange h d c l) = (d ≤ 32) × (c ≤ 32) × Legal l
   Legal (Optional w l) = (w ≤ 1) × Legal l
   Legal (Struct ls) = AllLegal ls
 
@@ -67,18 +67,40 @@ abbrev mutual
   AllLegal NoField = Unit {0}
   AllLegal (Field i l ls) = Legal l × AllLegal ls
 
--- a layout of a version
+-- a layout of a version within the limits: its root is a struct
 pub record IsLayout (n : Version) (l : Layout) : Type 0 where
+  pub root : IsStruct l
   pub kind_tree : IsKindTree l
   pub coded : OfVersion n l
   pub legal : Legal l
+
+-- a layout as files and definitions meet it: its version, whether a definition that binds to it may have wider whole
+-- numbers, and its tree
+pub record Described : Type 0 where
+  pub version : Version
+  pub relaxed : Bool
+  pub tree : Layout
+
+-- the layout with these parts
+abbrev pub described : Version → Bool → Layout → Described
+described n r l = record { version = n; relaxed = r; tree = l }
+
+-- no layout of version 1 is relaxed
+abbrev pub MayRelax : Version → Bool → Type 0
+MayRelax Version1 r = r ≡ false
+MayRelax Version2 r = Unit {0}
+
+-- its tree is a layout of its version, within the limits
+pub record IsDescribed (d : Described) : Type 0 where
+  pub relaxing : MayRelax d.version d.relaxed
+  pub layout : IsLayout d.version d.tree
 
 -- the bits that a value takes inline
 abbrev mutual
   pub stride : Layout → ℕ
   stride (Leaf k c) = width c
-  stride (Blob t d c) = d + c
-  stride (Range h d c l) = d + c
+  stride (ByteRange t d c) = d + c
+  stride (ItemRange h d c l) = d + c
   stride (Optional w l) = w + stride l
   stride (Struct ls) = strides ls
 
@@ -88,11 +110,13 @@ abbrev mutual
 
 -- both are of one kind tree, and no leaf of the first is wider than in the second
 abbrev pub Narrower : Layout → Layout → Type 0
-Narrower l m = Leafwise (λ (k : Scalar) (c : Coded) (d : Coded). width c ≤ width d) (λ (v : ℕ) (w : ℕ). v ≤ w) (λ (v : ℕ) (w : ℕ). v ≤ w) l m
+Narrower l m = Leafwise (λ (k : LeafKind) (c : Coded) (d : Coded). width c ≤ width d) (λ (v : ℕ) (w : ℕ). v ≤ w)
+    (λ (v : ℕ) (w : ℕ). v ≤ w) l m
 
 -- the same of the fields of a struct
 abbrev pub AllNarrower : Layouts → Layouts → Type 0
-AllNarrower ls ms = AllLeafwise (λ (k : Scalar) (c : Coded) (d : Coded). width c ≤ width d) (λ (v : ℕ) (w : ℕ). v ≤ w) (λ (v : ℕ) (w : ℕ). v ≤ w) ls ms
+AllNarrower ls ms = AllLeafwise (λ (k : LeafKind) (c : Coded) (d : Coded). width c ≤ width d)
+    (λ (v : ℕ) (w : ℕ). v ≤ w) (λ (v : ℕ) (w : ℕ). v ≤ w) ls ms
 
 -- ---- numbers at a leaf
 
@@ -102,7 +126,7 @@ number_of (Truth b) = cond b (pos 1) (pos 0)
 number_of (Number z) = z
 
 -- the flag or number of a kind that a number is
-abbrev pub atom_of : Scalar → ℤ → Atom
+abbrev pub atom_of : LeafKind → ℤ → Atom
 atom_of Flag (pos n) = Truth (nat_eq n 1)
 atom_of Flag (negsuc n) = Truth false
 atom_of (Integer k) z = Number z
@@ -137,7 +161,7 @@ pub record Fits (c : Coded) (z : ℤ) : Type 0 where
   pub wide : need c z ≤ width c
 
 -- the number lies in the range of the kind
-abbrev pub in_range : Scalar → ℤ → Bool
+abbrev pub in_range : LeafKind → ℤ → Bool
 in_range Flag z = true
 in_range (Integer k) (pos n) = nat_lt n (2 ^ value_bits k)
 in_range (Integer k) (negsuc n) = nat_lt n (2 ^ value_bits k)

@@ -1,7 +1,7 @@
 -- Packing: where each bit of a value stands.
 use Rattle.std.specs.Prelude.{◌≡◌, ℕ, zero, suc, ◌+◌, ◌-◌, ◌*◌, ◌/◌, ◌<◌, List, [], ◌∷◌, ◌++◌, Bool, false, length, replicate, get_or}
-use Rattle.frozen_model.specs.Bits.{bits, bits_of}
-use Rattle.frozen_model.specs.Trees.{Holder, Leaf, Blob, Range, Optional, Struct, Field, nodes}
+use Rattle.frozen_model.specs.Bits.{bits, bits_of, bytes_of}
+use Rattle.frozen_model.specs.Trees.{Holder, Leaf, ByteRange, ItemRange, Optional, Struct, Field, nodes}
 use Rattle.frozen_model.specs.Values.{Value, Values, One, Bytes, Items, Absent, Present, Record, NoValue, And, count, nth}
 use Rattle.frozen_model.specs.Layouts.{Layout, Layouts, stride, number_of, leaf_bits}
 
@@ -16,8 +16,8 @@ padding n = replicate (8 * bytes_for n - n) false
 -- the bytes of the blocks that belong to a value
 abbrev mutual
   pub extent : Layout → Value → ℕ
-  extent (Blob t d c) (Bytes bs) = length bs
-  extent (Range h d c l) (Items vs) = bytes_for (count vs * stride l) + extents l vs
+  extent (ByteRange t d c) (Bytes bs) = length bs
+  extent (ItemRange h d c l) (Items g vs) = bytes_for (count vs * stride l) + extents l vs
   extent (Optional w l) (Present v) = extent l v
   extent (Struct ls) (Record ids vs) = extent_all ls vs
   extent _ _ = 0
@@ -43,8 +43,8 @@ range_bits d c n at = bits d (distance n at) ++ bits c n
 abbrev mutual
   pub image : Layout → Value → ℕ → List Bool
   image (Leaf k c) (One x) at = leaf_bits c (number_of x)
-  image (Blob t d c) (Bytes bs) at = range_bits d c (length bs) at
-  image (Range h d c l) (Items vs) at = range_bits d c (count vs) at
+  image (ByteRange t d c) (Bytes bs) at = range_bits d c (length bs) at
+  image (ItemRange h d c l) (Items g vs) at = range_bits d c (count vs) at
   image (Optional w l) Absent at = replicate (w + stride l) false
   image (Optional w l) (Present v) at = bits w 1 ++ image l v at
   image (Struct ls) (Record ids vs) at = image_all ls vs at
@@ -63,8 +63,9 @@ abbrev mutual
 -- the bits of the blocks that belong to a value: of a range its own block, and then those of its items
 abbrev mutual
   pub tail : Layout → Value → List Bool
-  tail (Blob t d c) (Bytes bs) = bits_of bs
-  tail (Range h d c l) (Items vs) = images l vs (bytes_for (count vs * stride l)) ++ (padding (count vs * stride l) ++ tails l vs)
+  tail (ByteRange t d c) (Bytes bs) = bits_of bs
+  tail (ItemRange h d c l) (Items g vs) =
+      images l vs (bytes_for (count vs * stride l)) ++ (padding (count vs * stride l) ++ tails l vs)
   tail (Optional w l) (Present v) = tail l v
   tail (Struct ls) (Record ids vs) = tail_all ls vs
   tail _ _ = []
@@ -88,6 +89,10 @@ pack l v = block l (And v NoValue)
 -- the bytes are the packing of the value
 abbrev pub Packs : Layout → Value → List ℕ → Type 0
 Packs l v bs = bits_of bs ≡ pack l v
+
+-- those bytes
+abbrev pub packed : Layout → Value → List ℕ
+packed l v = bytes_of (bytes_for (stride l) + extent l v) (pack l v)
 
 -- ---- places in a packing
 
@@ -115,23 +120,28 @@ mutual
     here : PartAt m u p m u p
     item_at : {h : Holder} {d c : ℕ} {l : Layout} {vs : Values} {i start bit next : ℕ} → (j : ℕ) → j < count vs
         → PartAt m u p l (nth vs j) (place (suc (suc (suc i))) next (8 * next + j * stride l) (next + bytes_for (count vs * stride l) + extents_before l vs j))
-        → PartAt m u p (Range h d c l) (Items vs) (place i start bit next)
-    inner_at : {w : ℕ} {l : Layout} {v : Value} {i start bit next : ℕ} → PartAt m u p l v (place (suc (suc i)) start (bit + w) next)
+        → PartAt m u p (ItemRange h d c l) (Items h vs) (place i start bit next)
+    inner_at : {w : ℕ} {l : Layout} {v : Value} {i start bit next : ℕ}
+        → PartAt m u p l v (place (suc (suc i)) start (bit + w) next)
         → PartAt m u p (Optional w l) (Present v) (place i start bit next)
-    field_at : {ls : Layouts} {ids : List ℕ} {vs : Values} {i start bit next : ℕ} → PartAmong m u p ls vs (place (suc i) start bit next)
+    field_at : {ls : Layouts} {ids : List ℕ} {vs : Values} {i start bit next : ℕ}
+        → PartAmong m u p ls vs (place (suc i) start bit next)
         → PartAt m u p (Struct ls) (Record ids vs) (place i start bit next)
 
   -- the same of the fields of a struct
   pub data PartAmong (m : Layout) (u : Value) (p : Place) : Layouts → Values → Place → Type 0 where
-    first_at : {id : ℕ} {l : Layout} {ls : Layouts} {v : Value} {vs : Values} {i start bit next : ℕ} → PartAt m u p l v (place i start bit next)
+    first_at : {id : ℕ} {l : Layout} {ls : Layouts} {v : Value} {vs : Values} {i start bit next : ℕ}
+        → PartAt m u p l v (place i start bit next)
         → PartAmong m u p (Field id l ls) (And v vs) (place i start bit next)
     later_at : {id : ℕ} {l : Layout} {ls : Layouts} {v : Value} {vs : Values} {i start bit next : ℕ}
         → PartAmong m u p ls vs (place (i + nodes l) start (bit + stride l) (next + extent l v))
         → PartAmong m u p (Field id l ls) (And v vs) (place i start bit next)
 
--- u is the part of v that lies at that node of the layout, in the block that begins at byte start, with its first bit at bit
+-- u is the part of v that lies at that node of the layout, in the block that begins at byte start, with its first bit
+-- at bit
 abbrev pub Lies : Layout → Value → ℕ → ℕ → ℕ → Value → Type 0
-Lies l v node start bit u = (m : Layout) × (next : ℕ) × PartAt m u (place node start bit next) l v (place 0 0 0 (bytes_for (stride l)))
+Lies l v node start bit u = (m : Layout) × (next : ℕ)
+    × PartAt m u (place node start bit next) l v (place 0 0 0 (bytes_for (stride l)))
 
 -- ---- what stands in a list of bits
 

@@ -1,6 +1,6 @@
 -- Worked rows: layouts, values and contents, small enough to be computed by hand.
 use Rattle.std.specs.Prelude.{◌≡◌, ℕ, List, [], ◌∷◌, true, ℤ, pos, negsuc, Ok, Err}
-use Rattle.frozen_model.specs.Trees.{Flag, Integer, I8, I32, I64, Text, AList, AMap, Leaf, Blob, Range, Optional, Struct, NoField, Field}
+use Rattle.frozen_model.specs.Trees.{Flag, Integer, I8, I32, I64, Text, AList, AMap, Leaf, ByteRange, ItemRange, Optional, Struct, NoField, Field}
 use Rattle.frozen_model.specs.Values.{Value, Truth, Number, One, Bytes, Items, Absent, Present, Record, NoValue, And}
 use Rattle.frozen_model.specs.Layouts.{Layout, Coded}
 use Rattle.frozen_model.specs.Packing.{Packs}
@@ -21,11 +21,11 @@ two_numbers x y = Record (1 ∷ 2 ∷ []) (And (num x) (And (num y) NoValue))
 
 -- struct T {1: list<string> s}: the widths of the list's distance and count, and of the texts' distance and count
 abbrev pub list_of_texts : ℕ → ℕ → ℕ → ℕ → Layout
-list_of_texts d c e f = Struct (Field 1 (Range AList d c (Blob Text e f)) NoField)
+list_of_texts d c e f = Struct (Field 1 (ItemRange AList d c (ByteRange Text e f)) NoField)
 
 -- the texts a, b, c, d
 abbrev pub four_texts : Value
-four_texts = Record (1 ∷ []) (And (Items (And (Bytes (97 ∷ [])) (And (Bytes (98 ∷ [])) (And (Bytes (99 ∷ [])) (And (Bytes (100 ∷ [])) NoValue))))) NoValue)
+four_texts = Record (1 ∷ []) (And (Items AList (And (Bytes (97 ∷ [])) (And (Bytes (98 ∷ [])) (And (Bytes (99 ∷ [])) (And (Bytes (100 ∷ [])) NoValue))))) NoValue)
 
 -- struct B {1: bool f; 2: i64 m}
 abbrev pub flag_and_number : Coded → Coded → Layout
@@ -45,18 +45,18 @@ extremes = Record (1 ∷ 2 ∷ 3 ∷ []) (And (num (pos 9223372036854775807)) (A
 
 -- struct O {1: optional i32 a}  struct H {1: list<O> os}
 abbrev pub optional_items : ℕ → ℕ → ℕ → Coded → Layout
-optional_items d c w a = Struct (Field 1 (Range AList d c (Struct (Field 1 (Optional w (Leaf (Integer I32) a)) NoField))) NoField)
+optional_items d c w a = Struct (Field 1 (ItemRange AList d c (Struct (Field 1 (Optional w (Leaf (Integer I32) a)) NoField))) NoField)
 
 -- present with 0, absent, present with 5
 abbrev pub three_optionals : Value
-three_optionals = Record (1 ∷ []) (And (Items
+three_optionals = Record (1 ∷ []) (And (Items AList
     (And (Record (1 ∷ []) (And (Present (num (pos 0))) NoValue))
     (And (Record (1 ∷ []) (And Absent NoValue))
     (And (Record (1 ∷ []) (And (Present (num (pos 5))) NoValue)) NoValue)))) NoValue)
 
 -- struct M {1: map<i32, string> m}
 abbrev pub map_of_texts : ℕ → ℕ → Coded → ℕ → ℕ → Layout
-map_of_texts d c k e f = Struct (Field 1 (Range AMap d c (Struct (Field 1 (Leaf (Integer I32) k) (Field 2 (Blob Text e f) NoField)))) NoField)
+map_of_texts d c k e f = Struct (Field 1 (ItemRange AMap d c (Struct (Field 1 (Leaf (Integer I32) k) (Field 2 (ByteRange Text e f) NoField)))) NoField)
 
 -- a key and a text of one byte
 abbrev pub pair : ℤ → ℕ → Value
@@ -64,19 +64,19 @@ pair k b = Record (1 ∷ 2 ∷ []) (And (num k) (And (Bytes (b ∷ [])) NoValue)
 
 -- 1: a, 5: e, 9: i
 abbrev pub three_pairs : Value
-three_pairs = Record (1 ∷ []) (And (Items (And (pair (pos 1) 97) (And (pair (pos 5) 101) (And (pair (pos 9) 105) NoValue)))) NoValue)
+three_pairs = Record (1 ∷ []) (And (Items AMap (And (pair (pos 1) 97) (And (pair (pos 5) 101) (And (pair (pos 9) 105) NoValue)))) NoValue)
 
 -- struct V {1: list<i32> v}
 abbrev pub list_of_i32 : ℕ → ℕ → Coded → Layout
-list_of_i32 d c k = Struct (Field 1 (Range AList d c (Leaf (Integer I32) k)) NoField)
+list_of_i32 d c k = Struct (Field 1 (ItemRange AList d c (Leaf (Integer I32) k)) NoField)
 
 -- struct I {1: list<i8> v}
 abbrev pub list_of_i8 : ℕ → ℕ → Coded → Layout
-list_of_i8 d c k = Struct (Field 1 (Range AList d c (Leaf (Integer I8) k)) NoField)
+list_of_i8 d c k = Struct (Field 1 (ItemRange AList d c (Leaf (Integer I8) k)) NoField)
 
 -- 1000, 1001, 1003
 abbrev pub thousands : Value
-thousands = Record (1 ∷ []) (And (Items (And (num (pos 1000)) (And (num (pos 1001)) (And (num (pos 1003)) NoValue)))) NoValue)
+thousands = Record (1 ∷ []) (And (Items AList (And (num (pos 1000)) (And (num (pos 1001)) (And (num (pos 1003)) NoValue)))) NoValue)
 
 -- the bytes are the packing of the value in the layout, and are opened as that value
 pub record IsRow (l : Layout) (v : Value) (bs : List ℕ) : Type 0 where

@@ -9,14 +9,14 @@ pub data Whole : Type 0 where
   I64 : Whole
 
 -- the kinds that are one leaf
-pub data Scalar : Type 0 where
-  Flag : Scalar
-  Integer : Whole → Scalar
+pub data LeafKind : Type 0 where
+  Flag : LeafKind
+  Integer : Whole → LeafKind
 
 -- the kinds that are bytes: a text is UTF-8
-pub data Octets : Type 0 where
-  Text : Octets
-  Binary : Octets
+pub data ByteKind : Type 0 where
+  Text : ByteKind
+  Binary : ByteKind
 
 -- the kinds that hold items
 pub data Holder : Type 0 where
@@ -29,9 +29,9 @@ mutual
   -- with its distance and count; a list, set or map with its distance, its count and its item, which for a map is the
   -- pair of fields 1 and 2; an optional with its flag and its value; a struct.
   pub data Tree (A B : Type 0) : Type 0 where
-    Leaf : Scalar → A → Tree A B
-    Blob : Octets → B → B → Tree A B
-    Range : Holder → B → B → Tree A B → Tree A B
+    Leaf : LeafKind → A → Tree A B
+    ByteRange : ByteKind → B → B → Tree A B
+    ItemRange : Holder → B → B → Tree A B → Tree A B
     Optional : B → Tree A B → Tree A B
     Struct : Trees A B → Tree A B
 
@@ -52,8 +52,8 @@ KindTrees = Trees (Unit {0}) (Unit {0})
 abbrev mutual
   pub kinds : {A B : Type 0} → Tree A B → KindTree
   kinds (Leaf k a) = Leaf k tt
-  kinds (Blob t d c) = Blob t tt tt
-  kinds (Range h d c l) = Range h tt tt (kinds l)
+  kinds (ByteRange t d c) = ByteRange t tt tt
+  kinds (ItemRange h d c l) = ItemRange h tt tt (kinds l)
   kinds (Optional w l) = Optional tt (kinds l)
   kinds (Struct ls) = Struct (kinds_all ls)
 
@@ -66,40 +66,46 @@ abbrev pub ids_of : {A B : Type 0} → Trees A B → List ℕ
 ids_of NoField = []
 ids_of (Field i l ls) = i ∷ ids_of ls
 
--- Two trees of one kind tree whose leaves stand to each other so: by R at each scalar, by S at each distance, by T at each
--- count and each flag of an optional.
+-- Two trees of one kind tree whose leaves stand to each other so: by R at each scalar, by S at each distance, by T at
+-- each count and each flag of an optional.
 mutual
-  pub data Leafwise {A B C D : Type 0} (R : Scalar → A → C → Type 0) (S T : B → D → Type 0) : Tree A B → Tree C D → Type 0 where
-    leaf : {k : Scalar} {a : A} {c : C} → R k a c → Leafwise R S T (Leaf k a) (Leaf k c)
-    blob : {t : Octets} {d c : B} {d' c' : D} → S d d' → T c c' → Leafwise R S T (Blob t d c) (Blob t d' c')
-    range : {h : Holder} {d c : B} {d' c' : D} {l : Tree A B} {m : Tree C D} → S d d' → T c c' → Leafwise R S T l m
-        → Leafwise R S T (Range h d c l) (Range h d' c' m)
-    optional : {w : B} {w' : D} {l : Tree A B} {m : Tree C D} → T w w' → Leafwise R S T l m → Leafwise R S T (Optional w l) (Optional w' m)
+  pub data Leafwise {A B C D : Type 0} (R : LeafKind → A → C → Type 0) (S T : B → D → Type 0) : Tree A B → Tree C D
+      → Type 0 where
+    leaf : {k : LeafKind} {a : A} {c : C} → R k a c → Leafwise R S T (Leaf k a) (Leaf k c)
+    byte_range : {t : ByteKind} {d c : B} {d' c' : D} → S d d' → T c c'
+        → Leafwise R S T (ByteRange t d c) (ByteRange t d' c')
+    item_range : {h : Holder} {d c : B} {d' c' : D} {l : Tree A B} {m : Tree C D} → S d d' → T c c' → Leafwise R S T l m
+        → Leafwise R S T (ItemRange h d c l) (ItemRange h d' c' m)
+    optional : {w : B} {w' : D} {l : Tree A B} {m : Tree C D} → T w w' → Leafwise R S T l m
+        → Leafwise R S T (Optional w l) (Optional w' m)
     struct : {ls : Trees A B} {ms : Trees C D} → AllLeafwise R S T ls ms → Leafwise R S T (Struct ls) (Struct ms)
 
   -- the same of the fields of a struct
-  pub data AllLeafwise {A B C D : Type 0} (R : Scalar → A → C → Type 0) (S T : B → D → Type 0) : Trees A B → Trees C D → Type 0 where
+  pub data AllLeafwise {A B C D : Type 0} (R : LeafKind → A → C → Type 0) (S T : B → D → Type 0) : Trees A B
+      → Trees C D → Type 0 where
     no_field : AllLeafwise R S T NoField NoField
-    field : {i : ℕ} {l : Tree A B} {m : Tree C D} {ls : Trees A B} {ms : Trees C D} → Leafwise R S T l m → AllLeafwise R S T ls ms
+    field : {i : ℕ} {l : Tree A B} {m : Tree C D} {ls : Trees A B} {ms : Trees C D} → Leafwise R S T l m
+        → AllLeafwise R S T ls ms
         → AllLeafwise R S T (Field i l ls) (Field i m ms)
 
 -- two trees of one kind tree
 abbrev pub Alike : {A B C D : Type 0} → Tree A B → Tree C D → Type 0
-Alike {A} {B} {C} {D} l m = Leafwise (λ (k : Scalar) (a : A) (c : C). Unit {0}) (λ (b : B) (d : D). Unit {0}) (λ (b : B) (d : D). Unit {0}) l m
+Alike {A} {B} {C} {D} l m = Leafwise (λ (k : LeafKind) (a : A) (c : C). Unit {0}) (λ (b : B) (d : D). Unit {0})
+    (λ (b : B) (d : D). Unit {0}) l m
 
 -- ---- which kind trees there are
 
 -- keys are of this kind
 abbrev pub IsKey : {A B : Type 0} → Tree A B → Type 0
 IsKey (Leaf k a) = Unit {0}
-IsKey (Blob t d c) = Unit {0}
+IsKey (ByteRange t d c) = Unit {0}
 IsKey _ = ⊥
 
 -- a key, or a struct that begins with one
 abbrev pub IsKeyed : {A B : Type 0} → Tree A B → Type 0
 IsKeyed (Leaf k a) = Unit {0}
-IsKeyed (Blob t d c) = Unit {0}
-IsKeyed (Range h d c l) = ⊥
+IsKeyed (ByteRange t d c) = Unit {0}
+IsKeyed (ItemRange h d c l) = ⊥
 IsKeyed (Optional a l) = ⊥
 IsKeyed (Struct NoField) = ⊥
 IsKeyed (Struct (Field i l ls)) = IsKey l
@@ -114,8 +120,8 @@ Keyed AMap l = IsKeyed l
 abbrev mutual
   pub HasKeys : {A B : Type 0} → Tree A B → Type 0
   HasKeys (Leaf k a) = Unit {0}
-  HasKeys (Blob t d c) = Unit {0}
-  HasKeys (Range h d c l) = Keyed h l × HasKeys l
+  HasKeys (ByteRange t d c) = Unit {0}
+  HasKeys (ItemRange h d c l) = Keyed h l × HasKeys l
   HasKeys (Optional w l) = HasKeys l
   HasKeys (Struct ls) = AllHaveKeys ls
 
@@ -144,8 +150,8 @@ Rising before (i ∷ is) = (before < i) × (i ≤ 32767) × Rising i is
 abbrev mutual
   pub IsFormed : {A B : Type 0} → Tree A B → Type 0
   IsFormed (Leaf k a) = Unit {0}
-  IsFormed (Blob t d c) = Unit {0}
-  IsFormed (Range h d c l) = IsItem h l × IsFormed l
+  IsFormed (ByteRange t d c) = Unit {0}
+  IsFormed (ItemRange h d c l) = IsItem h l × IsFormed l
   IsFormed (Optional w l) = IsPlain l × IsFormed l
   IsFormed (Struct ls) = Rising 0 (ids_of ls) × AllFormed ls
 
@@ -157,8 +163,8 @@ abbrev mutual
 abbrev mutual
   pub nodes : {A B : Type 0} → Tree A B → ℕ
   nodes (Leaf k a) = 1
-  nodes (Blob t d c) = 3
-  nodes (Range h d c l) = 3 + nodes l
+  nodes (ByteRange t d c) = 3
+  nodes (ItemRange h d c l) = 3 + nodes l
   nodes (Optional w l) = 2 + nodes l
   nodes (Struct ls) = 1 + nodes_all ls
 
@@ -170,21 +176,24 @@ abbrev mutual
 mutual
   pub data Part {A B : Type 0} : Tree A B → ℕ → Tree A B → ℕ → Type 0 where
     itself : {t : Tree A B} {i : ℕ} → Part t i t i
-    in_item : {h : Holder} {d c : B} {l s : Tree A B} {i n : ℕ} → Part l (suc (suc (suc i))) s n → Part (Range h d c l) i s n
+    in_item : {h : Holder} {d c : B} {l s : Tree A B} {i n : ℕ} → Part l (suc (suc (suc i))) s n
+        → Part (ItemRange h d c l) i s n
     in_optional : {w : B} {l s : Tree A B} {i n : ℕ} → Part l (suc (suc i)) s n → Part (Optional w l) i s n
     in_struct : {ls : Trees A B} {s : Tree A B} {i n : ℕ} → PartAll ls (suc i) s n → Part (Struct ls) i s n
 
   -- the same of the fields of a struct, the first of which has the node i
   pub data PartAll {A B : Type 0} : Trees A B → ℕ → Tree A B → ℕ → Type 0 where
-    in_first : {id : ℕ} {l : Tree A B} {ls : Trees A B} {s : Tree A B} {i n : ℕ} → Part l i s n → PartAll (Field id l ls) i s n
-    in_later : {id : ℕ} {l : Tree A B} {ls : Trees A B} {s : Tree A B} {i n : ℕ} → PartAll ls (i + nodes l) s n → PartAll (Field id l ls) i s n
+    in_first : {id : ℕ} {l : Tree A B} {ls : Trees A B} {s : Tree A B} {i n : ℕ} → Part l i s n
+        → PartAll (Field id l ls) i s n
+    in_later : {id : ℕ} {l : Tree A B} {ls : Trees A B} {s : Tree A B} {i n : ℕ} → PartAll ls (i + nodes l) s n
+        → PartAll (Field id l ls) i s n
 
 -- the number of ranges: texts, bytes, lists, sets and maps
 abbrev mutual
   pub ranges : {A B : Type 0} → Tree A B → ℕ
   ranges (Leaf k a) = 0
-  ranges (Blob t d c) = 1
-  ranges (Range h d c l) = 1 + ranges l
+  ranges (ByteRange t d c) = 1
+  ranges (ItemRange h d c l) = 1 + ranges l
   ranges (Optional w l) = ranges l
   ranges (Struct ls) = ranges_all ls
 
@@ -192,21 +201,26 @@ abbrev mutual
   ranges_all NoField = 0
   ranges_all (Field i l ls) = ranges l + ranges_all ls
 
--- the greatest level of a node, where the root is at level 1: an item, a field and the two of a pair are one level below
--- their list, set, map or struct, and what an optional has is at its own level
+-- the greatest level of a node, where the root is at level 1: an item, a field and the two of a pair are one level
+-- below their list, set, map or struct, and what an optional has is at its own level
 abbrev mutual
   pub levels : {A B : Type 0} → Tree A B → ℕ
   levels (Leaf k a) = 1
-  levels (Blob t d c) = 1
-  levels (Range AList d c l) = 1 + levels l
-  levels (Range ASet d c l) = 1 + levels l
-  levels (Range AMap d c l) = levels l
+  levels (ByteRange t d c) = 1
+  levels (ItemRange AList d c l) = 1 + levels l
+  levels (ItemRange ASet d c l) = 1 + levels l
+  levels (ItemRange AMap d c l) = levels l
   levels (Optional w l) = levels l
   levels (Struct ls) = 1 + levels_all ls
 
   pub levels_all : {A B : Type 0} → Trees A B → ℕ
   levels_all NoField = 0
   levels_all (Field i l ls) = max (levels l) (levels_all ls)
+
+-- the root of a kind tree is a struct
+abbrev pub IsStruct : {A B : Type 0} → Tree A B → Type 0
+IsStruct (Struct ls) = Unit {0}
+IsStruct _ = ⊥
 
 -- the bits of a kind beside its sign
 abbrev pub value_bits : Whole → ℕ
@@ -216,7 +230,7 @@ value_bits I32 = 31
 value_bits I64 = 63
 
 -- the greatest width of a scalar
-abbrev pub greatest : Scalar → ℕ
+abbrev pub greatest : LeafKind → ℕ
 greatest Flag = 1
 greatest (Integer k) = suc (value_bits k)
 
@@ -224,8 +238,8 @@ greatest (Integer k) = suc (value_bits k)
 abbrev mutual
   pub greatest_bits : {A B : Type 0} → Tree A B → ℕ
   greatest_bits (Leaf k a) = greatest k
-  greatest_bits (Blob t d c) = 64
-  greatest_bits (Range h d c l) = 64
+  greatest_bits (ByteRange t d c) = 64
+  greatest_bits (ItemRange h d c l) = 64
   greatest_bits (Optional w l) = 1 + greatest_bits l
   greatest_bits (Struct ls) = greatest_bits_all ls
 
@@ -237,8 +251,8 @@ abbrev mutual
 abbrev mutual
   pub IsNarrow : {A B : Type 0} → Tree A B → Type 0
   IsNarrow (Leaf k a) = Unit {0}
-  IsNarrow (Blob t d c) = Unit {0}
-  IsNarrow (Range h d c l) = IsNarrow l
+  IsNarrow (ByteRange t d c) = Unit {0}
+  IsNarrow (ItemRange h d c l) = IsNarrow l
   IsNarrow (Optional w l) = (1 + greatest_bits l ≤ 32767) × IsNarrow l
   IsNarrow (Struct ls) = (greatest_bits_all ls ≤ 32767) × AllNarrow ls
 

@@ -4,7 +4,7 @@ use Rattle.std.specs.Str.{IsUtf8}
 use Rattle.std.specs.Cmp.Lexicographic.{slice_cmp}
 use Rattle.std.specs.Ordering.{nat_cmp, is_lt}
 use Rattle.std.specs.List.{AllByRecursion}
-use Rattle.frozen_model.specs.Trees.{Scalar, Flag, Integer, Octets, Text, Binary, Holder, AList, ASet, AMap, Tree, Trees, Leaf, Blob, Range, Optional, Struct, NoField, Field, ids_of, value_bits}
+use Rattle.frozen_model.specs.Trees.{LeafKind, Flag, Integer, ByteKind, Text, Binary, Holder, AList, ASet, AMap, Tree, Trees, Leaf, ByteRange, ItemRange, Optional, Struct, NoField, Field, ids_of, value_bits}
 
 -- a flag or a number
 pub data Atom : Type 0 where
@@ -17,7 +17,7 @@ mutual
   pub data Value : Type 0 where
     One : Atom → Value
     Bytes : List ℕ → Value
-    Items : Values → Value
+    Items : Holder → Values → Value
     Absent : Value
     Present : Value → Value
     Record : List ℕ → Values → Value
@@ -53,7 +53,7 @@ key_of (Record ids NoValue) = Absent
 key_of (Record ids (And v vs)) = v
 key_of (One x) = One x
 key_of (Bytes bs) = Bytes bs
-key_of (Items vs) = Items vs
+key_of (Items h vs) = Items h vs
 key_of Absent = Absent
 key_of (Present v) = Present v
 
@@ -81,25 +81,28 @@ InBits bits (pos n) = n < 2 ^ bits
 InBits bits (negsuc n) = n < 2 ^ bits
 
 -- the flag or number is of the kind, and in its range
-abbrev pub IsOf : Scalar → Atom → Type 0
+abbrev pub IsOf : LeafKind → Atom → Type 0
 IsOf Flag (Truth b) = Unit {0}
 IsOf (Integer k) (Number z) = InBits (value_bits k) z
 IsOf _ _ = ⊥
 
 -- a text is UTF-8
-abbrev pub IsSpelled : Octets → List ℕ → Type 0
+abbrev pub IsSpelled : ByteKind → List ℕ → Type 0
 IsSpelled Text bs = IsUtf8 bs
 IsSpelled Binary bs = Unit {0}
 
 -- the value has the form of the tree
 mutual
   pub data Of {A B : Type 0} : Tree A B → Value → Type 0 where
-    one : {k : Scalar} {a : A} {x : Atom} → IsOf k x → Of (Leaf k a) (One x)
-    bytes : {t : Octets} {d c : B} {bs : List ℕ} → length bs < 2 ^ 31 → AllByRecursion (λ b. b < 256) bs → IsSpelled t bs → Of (Blob t d c) (Bytes bs)
-    items : {h : Holder} {d c : B} {l : Tree A B} {vs : Values} → count vs < 2 ^ 31 → Rises h None vs → OfEach l vs → Of (Range h d c l) (Items vs)
+    one : {k : LeafKind} {a : A} {x : Atom} → IsOf k x → Of (Leaf k a) (One x)
+    bytes : {t : ByteKind} {d c : B} {bs : List ℕ} → length bs < 2 ^ 31 → AllByRecursion (λ b. b < 256) bs
+        → IsSpelled t bs → Of (ByteRange t d c) (Bytes bs)
+    items : {h : Holder} {d c : B} {l : Tree A B} {vs : Values} → count vs < 2 ^ 31 → Rises h None vs → OfEach l vs
+        → Of (ItemRange h d c l) (Items h vs)
     absent : {w : B} {l : Tree A B} → Of (Optional w l) Absent
     present : {w : B} {l : Tree A B} {v : Value} → Of l v → Of (Optional w l) (Present v)
-    record_of : {ids : List ℕ} {ls : Trees A B} {vs : Values} → ids ≡ ids_of ls → OfAll ls vs → Of (Struct ls) (Record ids vs)
+    record_of : {ids : List ℕ} {ls : Trees A B} {vs : Values} → ids ≡ ids_of ls → OfAll ls vs
+        → Of (Struct ls) (Record ids vs)
 
   -- items, all of one tree
   pub data OfEach {A B : Type 0} : Tree A B → Values → Type 0 where
@@ -109,7 +112,8 @@ mutual
   -- fields, each of its own tree
   pub data OfAll {A B : Type 0} : Trees A B → Values → Type 0 where
     no_part : OfAll NoField NoValue
-    part : {i : ℕ} {l : Tree A B} {ls : Trees A B} {v : Value} {vs : Values} → Of l v → OfAll ls vs → OfAll (Field i l ls) (And v vs)
+    part : {i : ℕ} {l : Tree A B} {ls : Trees A B} {v : Value} {vs : Values} → Of l v → OfAll ls vs
+        → OfAll (Field i l ls) (And v vs)
 
 -- ---- cells
 
@@ -117,8 +121,8 @@ mutual
 abbrev mutual
   pub inline_cells : {A B : Type 0} → Tree A B → ℕ
   inline_cells (Leaf k a) = 1
-  inline_cells (Blob t d c) = 2
-  inline_cells (Range h d c l) = 2
+  inline_cells (ByteRange t d c) = 2
+  inline_cells (ItemRange h d c l) = 2
   inline_cells (Optional w l) = 1 + inline_cells l
   inline_cells (Struct ls) = inline_cells_all ls
 
@@ -130,8 +134,8 @@ abbrev mutual
 abbrev mutual
   pub cells : {A B : Type 0} → Tree A B → Value → ℕ
   cells (Leaf k a) v = 1
-  cells (Blob t d c) (Bytes bs) = 2 + length bs
-  cells (Range h d c l) (Items vs) = 2 + cells_each l vs
+  cells (ByteRange t d c) (Bytes bs) = 2 + length bs
+  cells (ItemRange h d c l) (Items g vs) = 2 + cells_each l vs
   cells (Optional w l) (Present v) = 1 + cells l v
   cells (Optional w l) Absent = 1 + inline_cells l
   cells (Struct ls) (Record ids vs) = cells_all ls vs
@@ -152,8 +156,8 @@ cell_limit = 33554432
 -- over the ranges of a value, the count times the unit: 1 for a byte, 1 and the inline cells of the item for an item
 abbrev mutual
   pub range_cells : {A B : Type 0} → Tree A B → Value → ℕ
-  range_cells (Blob t d c) (Bytes bs) = length bs
-  range_cells (Range h d c l) (Items vs) = count vs * suc (inline_cells l) + range_cells_each l vs
+  range_cells (ByteRange t d c) (Bytes bs) = length bs
+  range_cells (ItemRange h d c l) (Items g vs) = count vs * suc (inline_cells l) + range_cells_each l vs
   range_cells (Optional w l) (Present v) = range_cells l v
   range_cells (Struct ls) (Record ids vs) = range_cells_all ls vs
   range_cells _ _ = 0

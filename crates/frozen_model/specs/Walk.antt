@@ -2,7 +2,7 @@
 use Rattle.std.specs.Prelude.{ℕ, zero, suc, ◌+◌, ◌-◌, ◌*◌, List, Bool, true, false, cond, length, nat_eq, nat_le, take, drop, Result, Ok, Err, Option, Some, None}
 use Rattle.std.specs.Str.{is_utf8}
 use Rattle.frozen_model.specs.Bits.{field}
-use Rattle.frozen_model.specs.Trees.{Octets, Text, Binary, Holder, Leaf, Blob, Range, Optional, Struct, NoField, Field, ids_of}
+use Rattle.frozen_model.specs.Trees.{ByteKind, Text, Binary, Holder, Leaf, ByteRange, ItemRange, Optional, Struct, NoField, Field, ids_of}
 use Rattle.frozen_model.specs.Values.{Value, Values, One, Bytes, Items, Absent, Present, Record, NoValue, And, key_of, above, bound, inline_cells, cell_limit}
 use Rattle.frozen_model.specs.Layouts.{Layout, Layouts, width, stride, meaning, atom_of, in_range}
 use Rattle.frozen_model.specs.Packing.{bytes_for, distance}
@@ -54,10 +54,12 @@ abbrev pub in_order : Option Value → ℕ → Value × ℕ × ℕ → Walked Va
 in_order k bit x = require (above k x.0) (KeyOrder bit) (Ok x)
 
 -- items one after another in a block, each by the step, with s bits from one to the next
-abbrev pub walk_each : Holder → (Option Value → ℕ → ℕ → ℕ → Walked Value) → ℕ → Option Value → ℕ → ℕ → ℕ → ℕ → Walked Values
+abbrev pub walk_each : Holder → (Option Value → ℕ → ℕ → ℕ → Walked Value) → ℕ → Option Value → ℕ → ℕ → ℕ → ℕ
+    → Walked Values
 walk_each h step s k zero bit next cells = Ok (NoValue, next, cells)
 walk_each h step s k (suc n) bit next cells =
-    and_then (step (bound h k) bit next cells) (λ x. and_then (walk_each h step s (Some (key_of x.0)) n (bit + s) x.1 x.2) (λ y. Ok (And x.0 y.0, y.1, y.2)))
+    and_then (step (bound h k) bit next cells)
+    (λ x. and_then (walk_each h step s (Some (key_of x.0)) n (bit + s) x.1 x.2) (λ y. Ok (And x.0 y.0, y.1, y.2)))
 
 -- a range's distance and count, and then what its count leads to
 abbrev pub range_at : {V : Type 0} → List ℕ → ℕ → ℕ → ℕ → ℕ → ℕ → (ℕ → Walked V) → Walked V
@@ -67,12 +69,12 @@ range_at bs d c start bit next go =
     require (nat_eq found (distance n (next - start))) (Distance bit found (distance n (next - start))) (go n)
 
 -- the bytes may be those of a text, or of bytes
-abbrev pub is_spelled : Octets → List ℕ → Bool
+abbrev pub is_spelled : ByteKind → List ℕ → Bool
 is_spelled Text bs = is_utf8 bs
 is_spelled Binary bs = true
 
 -- the block of a text or of bytes
-abbrev pub bytes_at : List ℕ → Octets → ℕ → ℕ → ℕ → Walked Value
+abbrev pub bytes_at : List ℕ → ByteKind → ℕ → ℕ → ℕ → Walked Value
 bytes_at bs t next cells n =
     require (nat_le (cells + n) cell_limit) TooManyCells
     (require (nat_le (next + n) (length bs)) Short
@@ -85,28 +87,30 @@ items_at bs h step s unit next cells n =
     require (nat_le (cells + n * unit) cell_limit) TooManyCells
     (require (nat_le (next + bytes_for (n * s)) (length bs)) Short
     (require_zero bs (8 * bytes_for (n * s) - n * s) (8 * next + n * s)
-    (and_then (walk_each h step s None n (8 * next) (next + bytes_for (n * s)) (cells + n * unit)) (λ x. Ok (Items x.0, x.1, x.2)))))
+    (and_then (walk_each h step s None n (8 * next) (next + bytes_for (n * s)) (cells + n * unit)) (λ x. Ok (Items h x.0, x.1, x.2)))))
 
--- the value whose image begins at the bit, in the block that begins at byte start, where the next block must begin at byte
--- next and there are so many cells so far; where it is a key, or a pair, its key is above the one given
+-- the value whose image begins at the bit, in the block that begins at byte start, where the next block must begin at
+-- byte next and there are so many cells so far; where it is a key, or a pair, its key is above the one given
 abbrev mutual
   pub walk : List ℕ → Layout → ℕ → Option Value → ℕ → ℕ → ℕ → Walked Value
   walk bs (Leaf k c) start key bit next cells =
       let z = meaning c (field bs bit (width c)) in
       require (in_range k z) (OutOfRange bit) (in_order key bit (One (atom_of k z), next, cells))
-  walk bs (Blob t d c) start key bit next cells = and_then (range_at bs d c start bit next (bytes_at bs t next cells)) (in_order key bit)
-  walk bs (Range h d c l) start key bit next cells =
+  walk bs (ByteRange t d c) start key bit next cells = and_then (range_at bs d c start bit next (bytes_at bs t next cells)) (in_order key bit)
+  walk bs (ItemRange h d c l) start key bit next cells =
       range_at bs d c start bit next (items_at bs h (walk bs l next) (stride l) (suc (inline_cells l)) next cells)
   walk bs (Optional w l) start key bit next cells =
       cond (nat_eq (field bs bit w) 1)
       (and_then (walk bs l start None (bit + w) next cells) (λ x. Ok (Present x.0, x.1, x.2)))
       (require_zero bs (stride l) (bit + w) (Ok (Absent, next, cells)))
-  walk bs (Struct ls) start key bit next cells = and_then (walk_all bs ls start key bit next cells) (λ x. Ok (Record (ids_of ls) x.0, x.1, x.2))
+  walk bs (Struct ls) start key bit next cells = and_then (walk_all bs ls start key bit next cells)
+      (λ x. Ok (Record (ids_of ls) x.0, x.1, x.2))
 
   pub walk_all : List ℕ → Layouts → ℕ → Option Value → ℕ → ℕ → ℕ → Walked Values
   walk_all bs NoField start key bit next cells = Ok (NoValue, next, cells)
   walk_all bs (Field i l ls) start key bit next cells =
-      and_then (walk bs l start key bit next cells) (λ x. and_then (walk_all bs ls start None (bit + stride l) x.1 x.2) (λ y. Ok (And x.0 y.0, y.1, y.2)))
+      and_then (walk bs l start key bit next cells)
+      (λ x. and_then (walk_all bs ls start None (bit + stride l) x.1 x.2) (λ y. Ok (And x.0 y.0, y.1, y.2)))
 
 -- the value of a content, or its first fault: the root block is walked as a block of one item, and must end the content
 abbrev pub open_content : List ℕ → Layout → Result Value Fault

@@ -59,8 +59,8 @@ pub fn row_keys_out_of_order()
     ensures { IsRefused (map_of_texts 1 2 (TwosComplement 5) 3 1) (7 ∷ 133 ∷ 67 ∷ 39 ∷ 7 ∷ 97 ∷ 101 ∷ 105 ∷ []) (KeyOrder 17) }
 {}
 
-/// The list of texts with other contents: a wrong distance, a byte less, a byte more, a bit set behind the root's last, and a
-/// byte that begins no character.
+/// The list of texts with other contents: a wrong distance, a byte less, a byte more, a bit set behind the root's
+/// last, and a byte that begins no character.
 pub fn row_damaged_content()
     ensures distance { IsRefused (list_of_texts 1 3 3 1) (9 ∷ 187 ∷ 220 ∷ 97 ∷ 98 ∷ 99 ∷ 100 ∷ []) (Distance 8 3 2) }
     ensures short { IsRefused (list_of_texts 1 3 3 1) (9 ∷ 186 ∷ 220 ∷ 97 ∷ 98 ∷ 99 ∷ []) Short }

@@ -1,0 +1,3 @@
+pub mod Proper
+pub mod ShortTokens
+pub mod ShortTexts

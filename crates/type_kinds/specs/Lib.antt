@@ -1,0 +1,4 @@
+pub mod KindsOf
+pub mod Defaults
+pub mod Accepted
+pub mod Laws

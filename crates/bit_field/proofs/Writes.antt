@@ -9,7 +9,7 @@ use Rattle.byteorder.specs.Numbers.{little_number-reads_back}
 use borrow.Rule.Slice.PartMut.{put_mid}
 use Rattle.frozen_model.specs.Bits.{bits, bits_of, number, field}
 use Rattle.frozen_model.specs.BitLaws.{IsBytes}
-use Rattle.frozen_model.proofs.Fields.{number-append, number-drop, field-drop, field-add, low_field, bytes-drop, bits-replaced}
+use Rattle.frozen_model.proofs.Fields.{number-append, number-drop, field-drop, field-add, low_field, bytes-drop, bits-replaced, replaced_parts}
 use Rattle.bit_field.proofs.Words.{number_first}
 use Rattle.bit_field.specs.Words.{Replaces}
 
@@ -181,9 +181,6 @@ padded_written old front zeros padded final bit w x e none r inside fits long is
 pub high_part : (x w s : ℕ) → s ≤ w → x < 2 ^ w → x / 2 ^ s < 2 ^ (w - s)
 high_part x w s le fits = let e : w ≡ (w - s) + s = omega arith in shr_below x (w - s) s (subst (λ z. x < 2 ^ z) e fits)
 
-parts : (P Q L F H x m n : ℕ) → m ≡ (H * Q + F) * P + L → n + F * P ≡ m + x * P → n ≡ (H * Q + x) * P + L
-parts P Q L F H x m n is step = omega arith
-
 -- a write leaves the number above it
 above : (m n bit w x : ℕ) → x < 2 ^ w → n + m / 2 ^ bit % 2 ^ w * 2 ^ bit ≡ m + x * 2 ^ bit → n / 2 ^ (bit + w) ≡ m / 2 ^ (bit + w)
 above m n bit w x fits step =
@@ -191,7 +188,7 @@ above m n bit w x fits step =
     let H : ℕ = m / 2 ^ bit / 2 ^ w in
     let L : ℕ = m % 2 ^ bit in
     let is : m ≡ (H * 2 ^ w + F) * 2 ^ bit + L = sym (shr_split m bit) ∙ ap (λ z. z * 2 ^ bit + L) (sym (shr_split (m / 2 ^ bit) w)) in
-    let sum : n ≡ (H * 2 ^ w + x) * 2 ^ bit + L = parts (2 ^ bit) (2 ^ w) L F H x m n is step in
+    let sum : n ≡ (H * 2 ^ w + x) * 2 ^ bit + L = replaced_parts (2 ^ bit) (2 ^ w) L F H x m n is step in
     let up : n / 2 ^ bit ≡ H * 2 ^ w + x = ap (λ z. z / 2 ^ bit) sum ∙ shr_high (H * 2 ^ w + x) bit L (mod_below m (2 ^ bit) (pow_pos bit)) in
     sym (shr-shr n bit w) ∙ ap (λ z. z / 2 ^ w) up ∙ shr_high H w x fits ∙ shr-shr m bit w
 

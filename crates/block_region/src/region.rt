@@ -1,57 +1,72 @@
 //! The reservation, and the blocks that it hands out.
 
-ghost use Rattle.std.specs.Prelude.{◌≡◌, ◌↔◌, ◌+◌, ◌-◌, ◌≤◌, IsSome, IfSome, IfOk, MatchOption, length, replicate};
+ghost use Rattle.std.specs.Prelude.{◌≡◌, ◌↔◌, ℕ, ◌+◌, ◌-◌, ◌≤◌, ◌<◌, slice_index, IsSome, IfSome, IsOk, IfOk, MatchOption, length, replicate};
 ghost use Rattle.std.specs.Borrow.{sem};
-ghost use Rattle.block_region.specs.Space.{IsTaken, block_bytes, written};
+ghost use Rattle.block_region.specs.Space.{IsRegion, IsTaken, block_bytes, handed_out, in_use, written, grown};
 ghost use Rattle.block_region.specs.Lending.{LendsBlock};
+ghost use Rattle.block_region.specs.Laws.{WritesAlone};
 
 use crate::block::Block;
 use std::alloc::{AllocError, Global};
 use std::marker::Model;
 use std_alloc::vec::run_mut;
 
-/// Memory that is taken once and handed out in blocks, the first bytes first.
+/// Memory that is taken once and handed out in blocks, the first bytes first. What is not yet handed out is zero.
 #[derive(Drop)]
 pub struct Region {
+    /// The part that is handed out, with room for all of the region.
     bytes: Vec<u8>,
-    taken: usize,
+    size: usize,
 }
 
 impl Model for Region {
-    ghost use Rattle.std.specs.Prelude.{◌≤◌, length};
-    ghost use Rattle.block_region.specs.Space.{Space, space_code};
+    ghost use Rattle.std.specs.Prelude.{◌≤◌, length, vec_capacity};
+    ghost use Rattle.block_region.specs.Space.{Space, space_of, space_code};
 
     ghost Value = { Space };
 
     ghost coded = { space_code };
 
-    ghost view = { λ r. record { bytes = r.bytes.items; taken = r.taken } };
+    ghost view = { λ r. space_of r.bytes.items r.size };
 
-    ghost invariant = { λ r. r.taken ≤ length r.bytes.items };
+    ghost invariant = { λ r. (length r.bytes.items ≤ r.size) × (r.size ≤ vec_capacity r.bytes) };
 }
 
 impl Region {
-    /// Takes the memory of a region of `len` bytes, all zero. No other call takes memory.
+    /// Takes the memory of a region of `len` bytes, all zero. No call but this and `grown` takes memory.
     pub fn reserve(alloc: Global, len: usize) -> Result<Region, AllocError>
-        ensures { IfOk result (λ r. r ≡ record { bytes = replicate len 0; taken = 0 }) }
+        ensures blank { IfOk result (λ r. r ≡ record { bytes = replicate len 0; taken = 0 }) }
+        ensures succeeds { len ≡ 0 → IsOk result }
     {
-        let mut bytes = Vec::with_capacity(alloc, len)?;
-        bytes.resize(len, 0)?;
-        Ok(Region { bytes, taken: 0 })
+        let bytes = Vec::with_capacity(alloc, len)?;
+        Ok(Region { bytes, size: len })
     }
 
-    /// Hands out the next `len` bytes. `None` comes where fewer are left, and then nothing changes.
+    /// Takes the memory of a region of `len` bytes in which the same bytes are handed out as here. So each block of
+    /// this region is one of the new region too, with the same bytes.
+    pub fn grown(&self, alloc: Global, len: usize) -> Result<Region, AllocError>
+        requires { self.now.taken ≤ len }
+        ensures { IfOk result (λ r. r ≡ grown self.now len) }
+    {
+        let mut bytes = Vec::with_capacity(alloc, len)?;
+        bytes.extend_from_slice(&self.bytes)?;
+        Ok(Region { bytes, size: len })
+    }
+
+    /// Hands out the next `len` bytes, which are zero. `None` comes where fewer are left, and then nothing changes.
     #[inline]
     pub fn take(&mut self, len: usize) -> Option<Block>
         ensures enough { IsSome result ↔ (self.old.taken + len ≤ length self.old.bytes) }
         ensures block { IfSome result (λ b. b ≡ record { start = self.old.taken; len = len }) }
-        ensures after { MatchOption result (self.new ≡ self.old) (λ b. self.new ≡ record self.old { taken = b.start + b.len }) }
+        ensures after { MatchOption result (self.new ≡ self.old) (λ b. self.new ≡ handed_out self.old b) }
+        ensures zero { IfSome result (λ b. block_bytes self.new b ≡ replicate len 0) }
+        ensures region { IsRegion self.new }
     {
-        if len > self.bytes.len() - self.taken {
+        if len > self.size - self.bytes.len() {
             return None;
         }
-        let start = self.taken;
-        self.taken += len;
+        let start = self.bytes.len();
+        self.bytes.resize(start + len, 0).unwrap();
         Some(Block::new(start, len))
     }
 
@@ -62,7 +77,7 @@ impl Region {
         ensures* writes_back { sem 𝓛 (LendsBlock self.entry block.now result) }
         ensures value { result.now ≡ block_bytes self.old block.now }
         ensures len { length result.now ≡ block.now.len }
-        ensures inside { self.old.taken ≤ length self.old.bytes }
+        ensures region { IsRegion self.old }
     {
         let bytes = &mut self.bytes;
         let start = block.start();
@@ -74,7 +89,9 @@ impl Region {
     pub fn copy(&mut self, block: &Block, from: &[u8])
         requires taken { IsTaken self.old block.now }
         requires length { length from.now ≡ block.now.len }
-        ensures { self.new ≡ written self.old block.now from.now }
+        ensures after { self.new ≡ written self.old block.now from.now }
+        ensures alone { WritesAlone self.old block.now from.now }
+        ensures region { IsRegion self.new }
     {
         self.lend(block).copy_from_slice(from);
     }
@@ -89,13 +106,24 @@ impl Region {
         &self.bytes[block.start()..block.start() + block.len()]
     }
 
+    /// All bytes that are handed out, in order.
+    #[inline]
+    pub fn in_use(&self) -> &[u8]
+        ensures value { result.now ≡ in_use self.now }
+        ensures len { length result.now ≡ self.now.taken }
+    {
+        &self.bytes
+    }
+
     /// How many bytes are left to hand out.
     #[inline]
     pub fn left(&self) -> usize
         ensures left { result ≡ length self.now.bytes - self.now.taken }
-        ensures inside { self.now.taken ≤ length self.now.bytes }
+        ensures region { IsRegion self.now }
+        ensures bytes { (k : ℕ) → slice_index self.now.bytes k < 256 }
     {
-        self.bytes.len() - self.taken
+        let in_use = self.bytes.as_slice();
+        self.size - in_use.len()
     }
 
     /// All the region's bytes in order, also those that no block has.
@@ -103,7 +131,8 @@ impl Region {
     pub fn finish(self) -> Vec<u8>
         ensures { result.items ≡ self.bytes }
     {
-        let Region { bytes, taken: _ } = self;
+        let Region { mut bytes, size } = self;
+        bytes.resize(size, 0).unwrap();
         bytes
     }
 }

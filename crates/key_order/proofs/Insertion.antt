@@ -10,25 +10,15 @@ use Rattle.std.proofs.lemmas.Map.Keys.{IsDistinct-head, IsDistinct-tail, IsDisti
 use Rattle.frozen_model.specs.Trees.{Holder, AList, ASet, AMap}
 use Rattle.frozen_model.specs.Values.{Value, key_less, key_of, Rises}
 use Rattle.key_order.specs.Keys.{AreOneKind, AreRising, IsOneKind}
+use Rattle.base_lists.proofs.Insertion.{in_order_moves}
 use Rattle.key_order.specs.InOrder.{row, insert, in_order, HaveSameMembers}
 use Rattle.key_order.proofs.Order.{value_cmp, value_total, Less_from_key_less, key_less_from_Greater, same_from_Equal}
 use Rattle.key_order.proofs.Rising.{Below, AreRanked, below_all, ranked_from_rising, rising_from_ranked, ranked_unique, rises_by_keys}
 
 -- ---- the same values
 
-inserted : (v : Value) (us : List Value) → IsPermutation (v ∷ us) (insert v us)
-inserted v [] = IsPermutation-refl (v ∷ [])
-inserted v (u ∷ us) = by (inserted v us) (key_less (key_of u) (key_of v))
-  where
-    by : IsPermutation (v ∷ us) (insert v us) → (b : Bool) → IsPermutation (v ∷ u ∷ us) (if b then u ∷ insert v us else v ∷ u ∷ us)
-    by rest true =
-        let swapped = IsPermutation-sym (u ∷ v ∷ us) (v ∷ u ∷ us) (IsPermutation-middle (u ∷ []) v us) in
-        IsPermutation-trans (v ∷ u ∷ us) (u ∷ v ∷ us) (u ∷ insert v us) swapped (IsPermutation-cons u (v ∷ us) (insert v us) rest)
-    by rest false = IsPermutation-refl (v ∷ u ∷ us)
-
 pub order_moves : (vs : List Value) → IsPermutation vs (in_order vs)
-order_moves [] = IsPermutation-refl []
-order_moves (v ∷ vs) = IsPermutation-trans (v ∷ vs) (v ∷ in_order vs) (insert v (in_order vs)) (IsPermutation-cons v vs (in_order vs) (order_moves vs)) (inserted v (in_order vs))
+order_moves vs = in_order_moves key_less key_of vs
 
 -- ---- each insertion keeps the rank
 

@@ -3,6 +3,7 @@ pub mod KeyCmp
 pub mod Sorted
 pub mod Repeated
 pub mod Neighbours
+pub mod Ranked
 pub mod Rising
 pub mod Insertion
 pub mod Items

@@ -2,14 +2,14 @@
 use Rattle.std.proofs.Common.{◌≡◌, ℕ, ◌+◌, ◌-◌, ◌<◌, ◌≤◌, List, length, Option, Some, None, slice_index, refl, sym, ap, ◌∙◌, subst, arith, ◌⊎◌, inl, inr, ⊎_elim}
 use Rattle.std.proofs.lemmas.Bool.{cases_lt}
 use Rattle.std.specs.Option.{IfSome}
-use Rattle.key_order.specs.declared.repeats.Entry.{Entry}
+use Rattle.key_order.specs.declared.repeats.PlacedKey.{PlacedKey}
 use Rattle.key_order.specs.declared.repeats.Repeat.{Repeat}
 use Rattle.key_order.specs.Keys.{value_of}
 use Rattle.key_order.proofs.Sorted.{at, place_at, one_key, one_key-same}
 use Rattle.key_order.specs.Entries.{places}
 use Rattle.key_order.specs.Neighbours.{HaveOneKey, places_at, IsLeastNeighbour}
 
-module _ (es : List Entry) (n : ℕ) (some : 0 < n) (inside : n < length es) where
+module _ (es : List PlacedKey) (n : ℕ) (some : 0 < n) (inside : n < length es) where
   -- of two neighbours up to n the first is an earlier one, or the last
   step : (k : ℕ) → k + 1 < n + 1 → (k + 1 < n) ⊎ (k ≡ n - 1)
   step k h = ⊎_elim (λ lt. inl lt) (λ le. inr (omega arith)) (cases_lt (k + 1) n)
@@ -63,7 +63,7 @@ module _ (es : List Entry) (n : ℕ) (some : 0 < n) (inside : n < length es) whe
       taken known s h (one same) (⊎_elim (λ e. inl e) (λ e. inr (e ∙ here-is)) either) low (subst (λ (q : Repeat). s.second ≤ q.second) here-is new)
 
 -- after the last entry
-pub at_end : (es : List Entry) (n : ℕ) (r : Option Repeat) → length es ≤ n → (n ≤ length es) ⊎ (n ≡ 1) → IsLeastNeighbour es n r → IsLeastNeighbour es (length es) r
+pub at_end : (es : List PlacedKey) (n : ℕ) (r : Option Repeat) → length es ≤ n → (n ≤ length es) ⊎ (n ≡ 1) → IsLeastNeighbour es n r → IsLeastNeighbour es (length es) r
 at_end es n None le end h = λ k lt one. h k (omega arith) one
 at_end es n (Some r) le end h = (
   (h.0.0, ⊎_elim (λ e. omega (arith, e, h.0.1)) (λ e. absurd (omega (arith, e, h.0.1))) end, h.0.2, h.0.3),

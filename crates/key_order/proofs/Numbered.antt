@@ -4,18 +4,18 @@ use Rattle.std.specs.List.{AllPairs, Contains, enumerate_from}
 use Rattle.std.proofs.lemmas.List.{get_or-map, length-map, map_push, get_or_default}
 use Rattle.std.proofs.lemmas.List.FromFn.{length-enumerate_from, get_or-enumerate_from}
 use Rattle.frozen_model.specs.Values.{Value, Absent}
-use Rattle.key_order.specs.declared.repeats.Entry.{Entry}
+use Rattle.key_order.specs.declared.repeats.PlacedKey.{PlacedKey}
 use Rattle.key_order.specs.Keys.{value_of}
 use Rattle.key_order.specs.Entries.{keys, places, placed}
 use Rattle.key_order.specs.Repeats.{HasNoRepeat}
 
 -- ---- entries that number keys
 
-keys_of_placed : (es : List Entry) → keys es ≡ map (λ (p : ℕ × Value). p.1) (placed es)
+keys_of_placed : (es : List PlacedKey) → keys es ≡ map (λ (p : ℕ × Value). p.1) (placed es)
 keys_of_placed [] = refl
 keys_of_placed (e ∷ es) = ap (λ ks. value_of e.key ∷ ks) (keys_of_placed es)
 
-places_of_placed : (es : List Entry) → places es ≡ map (λ (p : ℕ × Value). p.0) (placed es)
+places_of_placed : (es : List PlacedKey) → places es ≡ map (λ (p : ℕ × Value). p.0) (placed es)
 places_of_placed [] = refl
 places_of_placed (e ∷ es) = ap (λ ps. e.place ∷ ps) (places_of_placed es)
 
@@ -23,14 +23,14 @@ keys_of_numbered : (n : ℕ) (ks : List Value) → map (λ (p : ℕ × Value). p
 keys_of_numbered n [] = refl
 keys_of_numbered n (k ∷ ks) = ap (λ ls. k ∷ ls) (keys_of_numbered (n + 1) ks)
 
-place_is : (ks : List Value) (es : List Entry) → placed es ≡ enumerate_from 0 ks → (i d : ℕ) → i < length (places es) → get_or (places es) i d ≡ i
+place_is : (ks : List Value) (es : List PlacedKey) → placed es ≡ enumerate_from 0 ks → (i d : ℕ) → i < length (places es) → get_or (places es) i d ≡ i
 place_is ks es e i d h =
     let numbers = places_of_placed es ∙ ap (map (λ (p : ℕ × Value). p.0)) e in
     let l : i < length (enumerate_from 0 ks) = let same = ap length numbers in omega (arith, h, same, length-map (enumerate_from 0 ks) (λ (p : ℕ × Value). p.0)) in
     let m : i < length ks = omega (arith, l, length-enumerate_from 0 ks) in
     ap (λ ns. get_or ns i d) numbers ∙ get_or-map (λ (p : ℕ × Value). p.0) (enumerate_from 0 ks) i (d, Absent) d l ∙ ap (λ (p : ℕ × Value). p.0) (get_or-enumerate_from 0 ks i (d, Absent) m) ∙ zero-add i
 
-pub numbered_places_differ : (ks : List Value) (es : List Entry) → placed es ≡ enumerate_from 0 ks → (keys es ≡ ks) × AllPairs (λ p q. p ≢ q) (places es)
+pub numbered_places_differ : (ks : List Value) (es : List PlacedKey) → placed es ≡ enumerate_from 0 ks → (keys es ≡ ks) × AllPairs (λ p q. p ≢ q) (places es)
 numbered_places_differ ks es e = (
   keys_of_placed es ∙ ap (map (λ (p : ℕ × Value). p.1)) e ∙ keys_of_numbered 0 ks,
   λ i j d lt h same. let a = place_is ks es e i d (omega arith) in let b = place_is ks es e j d h in omega (arith, a, b, same),
@@ -45,15 +45,15 @@ numbers-push n (l ∷ ks) k =
     ap (λ ps. (n, l) ∷ ps) (numbers-push (n + 1) ks k ∙ ap (λ m. enumerate_from (n + 1) ks ++ (m, k) ∷ []) number)
 
 -- entries that number their keys still do with one more at the place of their length
-pub numbered-push : (es : List Entry) (e : Entry) → placed es ≡ enumerate_from 0 (keys es) → e.place ≡ length es → placed (es ++ e ∷ []) ≡ enumerate_from 0 (keys (es ++ e ∷ []))
+pub numbered-push : (es : List PlacedKey) (e : PlacedKey) → placed es ≡ enumerate_from 0 (keys es) → e.place ≡ length es → placed (es ++ e ∷ []) ≡ enumerate_from 0 (keys (es ++ e ∷ []))
 numbered-push es e h at =
     let key = value_of e.key in
-    let number : e.place ≡ 0 + length (keys es) = omega (arith, at, length-map es (λ (x : Entry). value_of x.key)) in
-    map_push {Y = ℕ × Value} (λ (x : Entry). (x.place, value_of x.key)) es e
+    let number : e.place ≡ 0 + length (keys es) = omega (arith, at, length-map es (λ (x : PlacedKey). value_of x.key)) in
+    map_push {Y = ℕ × Value} (λ (x : PlacedKey). (x.place, value_of x.key)) es e
     ∙ ap (λ ps. ps ++ (e.place, key) ∷ []) h
     ∙ ap (λ n. enumerate_from 0 (keys es) ++ (n, key) ∷ []) number
     ∙ sym (numbers-push 0 (keys es) key)
-    ∙ ap (enumerate_from 0) (sym (map_push (λ (x : Entry). value_of x.key) es e))
+    ∙ ap (enumerate_from 0) (sym (map_push (λ (x : PlacedKey). value_of x.key) es e))
 
 -- ---- none repeats
 

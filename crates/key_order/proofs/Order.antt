@@ -1,21 +1,15 @@
 -- The order of keys as one total order on all values: by kind, then by number, then by bytes.
-use Rattle.std.proofs.Common.{◌≡◌, ℕ, ℤ, pos, List, [], Bool, true, false, cond, Ordering, Less, Equal, Greater, nat_cmp, is_lt, is_eq, refl, sym, ap, ◌∙◌, arith}
+use Rattle.std.proofs.Common.{◌≡◌, ℕ, ◌<◌, ℤ, pos, List, [], Bool, true, false, cond, Ordering, Less, Equal, Greater, nat_cmp, is_lt, is_eq, refl, sym, ap, ◌∙◌, arith}
 use Rattle.std.specs.Ordering.{int_cmp, ordering_then, ordering_reverse}
 use Rattle.std.specs.Cmp.{IsTotalOrder}
 use Rattle.std.specs.Cmp.Lexicographic.{slice_cmp}
-use Rattle.std.proofs.lemmas.Bool.Decides.{Decides-int_eq}
+use Rattle.std.proofs.lemmas.Bool.Decides.{Decides-int_eq, nat_tests}
 use Rattle.std.proofs.lemmas.Cmp.{then_total, on_total, int_cmp_total, nat_list_cmp_total, nat_cmp_total, tied_itself}
 use Rattle.std.proofs.lemmas.Int.{ints}
 use Rattle.std.proofs.lemmas.Map.Text.{is_eq-slice_cmp}
 use Rattle.std.proofs.lemmas.Slice.Eq.{bytes_eq-Decides}
 use Rattle.frozen_model.specs.Values.{Truth, Number, Value, One, Bytes, key_less}
-use Rattle.key_order.specs.Keys.{IsOneKind}
-
-abbrev rank : Value → ℕ
-rank (One (Truth b)) = 0
-rank (One (Number z)) = 1
-rank (Bytes bs) = 2
-rank _ = 3
+use Rattle.key_order.specs.Keys.{kind_rank, IsOneKind}
 
 abbrev number : Value → ℤ
 number (One (Truth b)) = cond b (pos 1) (pos 0)
@@ -27,10 +21,10 @@ bytes (Bytes bs) = bs
 bytes _ = []
 
 abbrev pub value_cmp : Value → Value → Ordering
-value_cmp v u = ordering_then (nat_cmp (rank v) (rank u)) (ordering_then (int_cmp (number v) (number u)) (slice_cmp nat_cmp (bytes v) (bytes u)))
+value_cmp v u = ordering_then (nat_cmp (kind_rank v) (kind_rank u)) (ordering_then (int_cmp (number v) (number u)) (slice_cmp nat_cmp (bytes v) (bytes u)))
 
 pub value_total : IsTotalOrder value_cmp
-value_total = then_total (on_total rank nat_cmp_total) (then_total (on_total number int_cmp_total) (on_total bytes nat_list_cmp_total))
+value_total = then_total (on_total kind_rank nat_cmp_total) (then_total (on_total number int_cmp_total) (on_total bytes nat_list_cmp_total))
 
 -- ---- keys of one kind
 
@@ -102,3 +96,11 @@ Greater_from_key_less v u h = value_total.antisymm v u ∙ ap ordering_reverse (
 
 pub key_less_from_Greater : (v u : Value) → IsOneKind v u → value_cmp v u ≡ Greater → key_less u v ≡ true
 key_less_from_Greater v u k h = key_less_from_Less u v (one_kind-sym v u k) (value_total.antisymm u v ∙ ap ordering_reverse h)
+
+-- ---- keys of two kinds
+
+pub Less_from_kinds : (v u : Value) → kind_rank v < kind_rank u → value_cmp v u ≡ Less
+Less_from_kinds v u h = let less : nat_cmp (kind_rank v) (kind_rank u) ≡ Less = grind (arith, nat_tests) in ap (λ o. ordering_then o (ordering_then (int_cmp (number v) (number u)) (slice_cmp nat_cmp (bytes v) (bytes u)))) less
+
+pub Greater_from_kinds : (v u : Value) → kind_rank u < kind_rank v → value_cmp v u ≡ Greater
+Greater_from_kinds v u h = value_total.antisymm v u ∙ ap ordering_reverse (Less_from_kinds u v h)

@@ -10,8 +10,8 @@ use Rattle.std.proofs.lemmas.List.Sorted.{Contains-permutation, IsPermutation-sy
 use Rattle.std.proofs.lemmas.Map.Keys.{IsDistinct-IsPermutation}
 use Rattle.std.proofs.lemmas.Map.Made.{AllPairs-from_IsDistinct, IsDistinct-from_AllPairs}
 use Rattle.frozen_model.specs.Values.{Value}
-use Rattle.key_order.specs.contracts.repeats.EntryOrd.TheImpl.{ghosts}
-use Rattle.key_order.specs.declared.repeats.Entry.{Entry}
+use Rattle.key_order.specs.contracts.repeats.PlacedKeyOrd.TheImpl.{ghosts}
+use Rattle.key_order.specs.declared.repeats.PlacedKey.{PlacedKey}
 use Rattle.key_order.specs.declared.repeats.Repeat.{Repeat}
 use Rattle.key_order.specs.Keys.{value_of, AreOneKind, AreRising}
 use Rattle.key_order.specs.Entries.{keys, places, placed}
@@ -22,7 +22,7 @@ use Rattle.key_order.proofs.Sorted.{at, place_at, one_key, one_key-same, between
 abbrev pub Answers : List (ℕ × Value) → Option Repeat → Type 0
 Answers ks r = MatchOption r (HasNoRepeat ks) (λ r. IsLeastRepeat ks r.first r.second)
 
-abbrev Apart : List Entry → Type 0
+abbrev Apart : List PlacedKey → Type 0
 Apart es = AllPairs (λ p q. p ≢ q) (places es)
 
 -- ---- the order of the list plays no part
@@ -43,20 +43,20 @@ answers_moved ks ls (Some r) p a = record {
   only = λ f h. a.only f (repeat_moved ks ls f r.second p h);
 }
 
-apart_moved : (es fs : List Entry) → IsPermutation es fs → Apart es → Apart fs
+apart_moved : (es fs : List PlacedKey) → IsPermutation es fs → Apart es → Apart fs
 apart_moved es fs p h =
-    let moved = IsPermutation-map (λ (e : Entry). e.place) es fs p in
+    let moved = IsPermutation-map (λ (e : PlacedKey). e.place) es fs p in
     AllPairs-from_IsDistinct (λ a b. Decides-eqb a b) (places fs) (IsDistinct-IsPermutation nat_eq (λ x y. grind (arith, nat_tests)) (places es) (places fs) moved (IsDistinct-from_AllPairs (λ a b. Decides-eqb a b) (places es) h))
 
 -- ---- a key and its place by index
 
-placed_at : (es : List Entry) (i : ℕ) (d : ℕ × Value) → i < length es → get_or (placed es) i d ≡ ((at es i).place, value_of (at es i).key)
-placed_at es i d h = get_or-map (λ (e : Entry). (e.place, value_of e.key)) es i _ d h
+placed_at : (es : List PlacedKey) (i : ℕ) (d : ℕ × Value) → i < length es → get_or (placed es) i d ≡ ((at es i).place, value_of (at es i).key)
+placed_at es i d h = get_or-map (λ (e : PlacedKey). (e.place, value_of e.key)) es i _ d h
 
-there : (es : List Entry) (i : ℕ) → i < length es → Contains (placed es) ((at es i).place, value_of (at es i).key)
+there : (es : List PlacedKey) (i : ℕ) → i < length es → Contains (placed es) ((at es i).place, value_of (at es i).key)
 there es i h = (i, omega (arith, length-map {B = ℕ × Value} es (λ e. (e.place, value_of e.key))), placed_at es i _ h)
 
-found : (es : List Entry) (k : Value) (p : ℕ) → Contains (placed es) (p, k) → (i : ℕ) × (i < length es) × (value_of (at es i).key ≡ k) × ((at es i).place ≡ p)
+found : (es : List PlacedKey) (k : Value) (p : ℕ) → Contains (placed es) (p, k) → (i : ℕ) × (i < length es) × (value_of (at es i).key ≡ k) × ((at es i).place ≡ p)
 found es k p (i, h, e) =
     let l : i < length es = omega (arith, length-map {B = ℕ × Value} es (λ e. (e.place, value_of e.key))) in
     let is = sym (placed_at es i (p, k) l) ∙ e in
@@ -64,12 +64,12 @@ found es k p (i, h, e) =
 
 -- ---- where places differ, each has one key
 
-module _ (es : List Entry) (apart : Apart es) where
+module _ (es : List PlacedKey) (apart : Apart es) where
   same_index : (i j : ℕ) → i < length es → j < length es → (at es i).place ≡ (at es j).place → i ≡ j
   same_index i j h l same = by (cases_lt i j) (cases_lt j i)
     where
       clash : (i j : ℕ) → i < j → j < length es → (at es i).place ≡ (at es j).place → ⊥
-      clash i j h l same = apart i j 0 h (omega (arith, length-map es (λ (e : Entry). e.place))) (place_at es i 0 (omega arith) ∙ same ∙ sym (place_at es j 0 l))
+      clash i j h l same = apart i j 0 h (omega (arith, length-map es (λ (e : PlacedKey). e.place))) (place_at es i 0 (omega arith) ∙ same ∙ sym (place_at es j 0 l))
 
       by : (i < j) ⊎ (j ≤ i) → (j < i) ⊎ (i ≤ j) → i ≡ j
       by (inl lt) q = absurd (clash i j lt l same)
@@ -99,7 +99,7 @@ module _ (es : List Entry) (apart : Apart es) where
 
 -- ---- entries in order
 
-module _ (es : List Entry) (up : IsSorted ghosts.cmp es) where
+module _ (es : List PlacedKey) (up : IsSorted ghosts.cmp es) where
   -- what repeats stands right behind an entry of its key
   behind : (f s : ℕ) → IsRepeat (placed es) f s → (k : ℕ) × (k + 1 < length es) × HaveOneKey es k × ((at es (k + 1)).place ≡ s)
   behind f s r =
@@ -136,12 +136,12 @@ module _ (es : List Entry) (up : IsSorted ghosts.cmp es) where
 
 -- ---- what the sort leaves
 
-module _ (old new : List Entry) (moved : IsPermutation old new) (up : IsSorted ghosts.cmp new) where
+module _ (old new : List PlacedKey) (moved : IsPermutation old new) (up : IsSorted ghosts.cmp new) where
   pub least_from_neighbours : (r : Option Repeat) → Apart old → IsLeastNeighbour new (length new) r → Answers (placed old) r
-  least_from_neighbours r apart n = answers_moved (placed old) (placed new) r (IsPermutation-map (λ (e : Entry). (e.place, value_of e.key)) old new moved) (answers new up r (apart_moved old new moved apart) n)
+  least_from_neighbours r apart n = answers_moved (placed old) (placed new) r (IsPermutation-map (λ (e : PlacedKey). (e.place, value_of e.key)) old new moved) (answers new up r (apart_moved old new moved apart) n)
 
   pub rising_from_neighbours : (r : Option Repeat) → IsLeastNeighbour new (length new) r → AreOneKind (keys old) → IfNone r (AreRising (keys new))
   rising_from_neighbours None n kind =
-      let back = IsPermutation-sym (keys old) (keys new) (IsPermutation-map (λ (e : Entry). value_of e.key) old new moved) in
+      let back = IsPermutation-sym (keys old) (keys new) (IsPermutation-map (λ (e : PlacedKey). value_of e.key) old new moved) in
       rising new up n (λ k l a b. kind k l (Contains-permutation (keys new) (keys old) k back a) (Contains-permutation (keys new) (keys old) l back b))
   rising_from_neighbours (Some r) n kind = tt

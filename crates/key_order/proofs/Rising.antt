@@ -1,13 +1,15 @@
 -- Values ranked by their keys: each key is below all later ones. There is one such list of the same members.
 use Rattle.std.proofs.Common.{◌≡◌, ◌≢◌, ◌↔◌, zero, suc, ◌+◌, List, [], ◌∷◌, map, true, Some, None, Less, refl, sym, ap, ◌∙◌, subst, arith, ◌⊎◌, inl, inr}
-use Rattle.std.specs.List.{AllByRecursion, Contains}
+use Rattle.std.specs.List.{AllByRecursion, AllPairs, Contains}
 use Rattle.std.proofs.lemmas.Cmp.{tied_itself}
-use Rattle.std.proofs.lemmas.List.Elements.{All-from_recursion, All-contains}
+use Rattle.std.proofs.lemmas.List.Elements.{All-from_recursion}
+use Rattle.std.proofs.lemmas.List.Kept.{AllPairs-cons}
 use Rattle.frozen_model.specs.Trees.{Holder, AList, ASet, AMap}
 use Rattle.frozen_model.specs.Values.{Value, key_less, key_of, Rises}
 use Rattle.key_order.specs.Keys.{AreOneKind, AreRising, IsOneKind}
 use Rattle.key_order.specs.InOrder.{row, HaveSameMembers}
-use Rattle.key_order.proofs.Order.{value_cmp, value_total, Less_from_key_less, key_less_from_Less}
+use Rattle.key_order.proofs.Order.{value_cmp, value_total, Less_from_key_less, key_less_from_Less, Equal_from_same}
+use Rattle.key_order.proofs.Ranked as ranked
 
 -- ---- keys that rise, one after another
 
@@ -47,9 +49,11 @@ rises_by_keys AMap (v ∷ vs) held = let rest = rises-after AMap (key_of v) vs h
 abbrev pub Below : Value → Value → Type 0
 Below v u = value_cmp (key_of v) (key_of u) ≡ Less
 
+pub both_below : (v u : Value) → Below v u → Below u v → ⊥
+both_below v u h g = let less = value_total.trans (key_of v) (key_of u) (key_of v) h g in let same = tied_itself value_total (key_of v) in cc
+
 abbrev pub AreRanked : List Value → Type 0
-AreRanked [] = Unit {0}
-AreRanked (v ∷ vs) = AllByRecursion (Below v) vs × AreRanked vs
+AreRanked = ranked.AreRanked Below both_below
 
 pub below_all : (v u : Value) (us : List Value) → Below v u → AllByRecursion (Below u) us → AllByRecursion (Below v) us
 below_all v u [] less h = tt
@@ -72,46 +76,19 @@ rising_from_ranked (v ∷ u ∷ us) kind h =
     let rest = rising_from_ranked (u ∷ us) (λ k l a b. kind k l (behind k a) (behind l b)) h.1 in
     rising-cons (key_of v) (key_of u) (map key_of us) (key_less_from_Less (key_of v) (key_of u) one h.0.0) rest
 
--- ---- one list of the same members
-
-above_in : (v : Value) (us : List Value) (w : Value) → AllByRecursion (Below v) us → Contains us w → Below v w
-above_in v us w h c = All-contains (Below v) us w (All-from_recursion (Below v) us h) c
-
-in_cases : (u : Value) (us : List Value) (w : Value) → Contains (u ∷ us) w → (u ≡ w) ⊎ Contains us w
-in_cases u us w (zero, h, e) = inl e
-in_cases u us w (suc k, h, e) = inr (k, omega (arith, h), e)
-
-at_first : (v : Value) (vs : List Value) → Contains (v ∷ vs) v
-at_first v vs = (0, omega arith, refl)
-
-behind_first : (v : Value) (vs : List Value) (w : Value) → Contains vs w → Contains (v ∷ vs) w
-behind_first v vs w (k, h, e) = (suc k, omega (arith, h), e)
-
-both_below : (v u : Value) → Below v u → Below u v → ⊥
-both_below v u h g = let less = value_total.trans (key_of v) (key_of u) (key_of v) h g in let same = tied_itself value_total (key_of v) in cc
-
-heads : (v u : Value) (vs us : List Value) → AllByRecursion (Below v) vs → AllByRecursion (Below u) us → Contains (u ∷ us) v → Contains (v ∷ vs) u → v ≡ u
-heads v u vs us a b f g = by (in_cases u us v f) (in_cases v vs u g)
-  where
-    by : (u ≡ v) ⊎ Contains us v → (v ≡ u) ⊎ Contains vs u → v ≡ u
-    by (inl e) q = sym e
-    by (inr p) (inl e) = e
-    by (inr p) (inr q) = absurd (both_below v u (above_in v vs u a q) (above_in u us v b p))
-
-tails : (v : Value) (vs us : List Value) → AllByRecursion (Below v) vs → ((w : Value) → Contains (v ∷ vs) w → Contains (v ∷ us) w) → (w : Value) → Contains vs w → Contains us w
-tails v vs us a f w c = by (in_cases v us w (f w (behind_first v vs w c)))
-  where
-    by : (v ≡ w) ⊎ Contains us w → Contains us w
-    by (inl e) = let l : Below v v = subst (Below v) (sym e) (above_in v vs w a c) in absurd (both_below v v l l)
-    by (inr d) = d
-
 pub ranked_unique : (vs us : List Value) → AreRanked vs → AreRanked us → HaveSameMembers vs us → vs ≡ us
-ranked_unique [] [] r s same = refl
-ranked_unique [] (u ∷ us) r s same = let c = (same u).1 (at_first u us) in absurd (omega (arith, c.1))
-ranked_unique (v ∷ vs) [] r s same = let c = (same v).0 (at_first v vs) in absurd (omega (arith, c.1))
-ranked_unique (v ∷ vs) (u ∷ us) r s same =
-    let e : v ≡ u = heads v u vs us r.0 s.0 ((same v).0 (at_first v vs)) ((same u).1 (at_first u us)) in
-    let s' : AllByRecursion (Below v) us = subst (λ w. AllByRecursion (Below w) us) (sym e) s.0 in
-    let f : (w : Value) → Contains (v ∷ vs) w → Contains (v ∷ us) w = λ w c. subst (λ x. Contains (x ∷ us) w) (sym e) ((same w).0 c) in
-    let g : (w : Value) → Contains (v ∷ us) w → Contains (v ∷ vs) w = λ w c. (same w).1 (subst (λ x. Contains (x ∷ us) w) e c) in
-    ap (λ ws. v ∷ ws) (ranked_unique vs us r.1 s.1 (λ w. (tails v vs us r.0 f w, tails v us vs s' g w))) ∙ ap (λ w. w ∷ us) e
+ranked_unique = ranked.ranked_unique Below both_below
+
+-- the keys of such values differ
+pub ranked_keys_differ : (vs : List Value) → AreRanked vs → AllPairs (λ k l. k ≢ l) (map key_of vs)
+ranked_keys_differ [] h = λ i j d lt there. absurd (omega (arith, there))
+ranked_keys_differ (v ∷ vs) h =
+    let other = All-from_recursion (λ k. key_of v ≢ k) (map key_of vs) (apart vs h.0) in
+    AllPairs-cons (λ k l. k ≢ l) (key_of v) (map key_of vs) other (ranked_keys_differ vs h.1)
+  where
+    apart : (us : List Value) → AllByRecursion (Below v) us → AllByRecursion (λ k. key_of v ≢ k) (map key_of us)
+    apart [] g = tt
+    apart (u ∷ us) g = (λ e. let same = Equal_from_same (key_of v) (key_of u) e in let less = g.0 in cc, apart us g.1)
+
+pub rising_keys_differ : (vs : List Value) → AreRising (map key_of vs) → AllPairs (λ k l. k ≢ l) (map key_of vs)
+rising_keys_differ vs h = ranked_keys_differ vs (ranked_from_rising vs h)

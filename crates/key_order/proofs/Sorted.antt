@@ -1,5 +1,5 @@
 -- Entries in order: those of one key stand side by side, their places rising.
-use Rattle.std.proofs.Common.{◌≡◌, ℕ, ◌+◌, ◌<◌, ◌≤◌, List, length, get_or, false, Ordering, Less, Equal, Greater, nat_cmp, is_lt, refl, sym, ap, ◌∙◌, subst, arith}
+use Rattle.std.proofs.Common.{◌≡◌, ℕ, ◌+◌, ◌<◌, ◌≤◌, inl, inr, ⊎_elim, List, length, get_or, pos, false, Ordering, Less, Equal, Greater, nat_cmp, is_lt, refl, sym, ap, ◌∙◌, subst, arith}
 use Rattle.std.specs.List.{Contains}
 use Rattle.std.specs.List.Sorted.{IsSorted}
 use Rattle.std.specs.Ordering.{ordering_then, ordering_reverse}
@@ -10,22 +10,22 @@ use Rattle.std.proofs.lemmas.List.Elements.{Contains-get_or}
 use Rattle.std.proofs.lemmas.List.Sorted.{sorted_far, ranks_by}
 use Rattle.std.proofs.lemmas.Map.Keys.{ge_from_not_lt}
 use Rattle.frozen_model.specs.Values.{Value, Absent}
-use Rattle.key_order.specs.contracts.repeats.EntryOrd.TheImpl.{ghosts}
-use Rattle.key_order.specs.declared.repeats.Entry.{Entry}
-use Rattle.key_order.specs.declared.key.Key.TheVariants.{Flag}
+use Rattle.key_order.specs.contracts.repeats.PlacedKeyOrd.TheImpl.{ghosts}
+use Rattle.key_order.specs.declared.repeats.PlacedKey.{PlacedKey}
+use Rattle.key_order.specs.declared.key.Key.TheVariants.{Number}
 use Rattle.key_order.specs.Keys.{value_of, AreOneKind, AreRising}
-use Rattle.key_order.specs.Entries.{keys, places}
+use Rattle.key_order.specs.Entries.{keys, places, InTurn, AreInTurn}
 use Rattle.key_order.specs.Neighbours.{HaveOneKey}
 use Rattle.key_order.proofs.Order.{value_cmp, value_total, key_less_from_Greater, Equal_from_same}
-use Rattle.key_order.proofs.KeyCmp.{key_cmp-is, same_key}
+use Rattle.key_order.proofs.KeyCmp.{key_cmp-is, same_key, less_splits}
 
-abbrev entry_cmp : Entry → Entry → Ordering
+abbrev entry_cmp : PlacedKey → PlacedKey → Ordering
 entry_cmp x y = ordering_then (value_cmp (value_of x.key) (value_of y.key)) (nat_cmp x.place y.place)
 
 entry_total : IsTotalOrder entry_cmp
-entry_total = then_total (on_total (λ (e : Entry). value_of e.key) value_total) (on_total (λ (e : Entry). e.place) nat_cmp_total)
+entry_total = then_total (on_total (λ (e : PlacedKey). value_of e.key) value_total) (on_total (λ (e : PlacedKey). e.place) nat_cmp_total)
 
-entry_cmp-is : (x y : Entry) → ghosts.cmp x y ≡ entry_cmp x y
+entry_cmp-is : (x y : PlacedKey) → ghosts.cmp x y ≡ entry_cmp x y
 entry_cmp-is x y = ap (λ o. ordering_then o (nat_cmp x.place y.place)) (key_cmp-is x.key y.key)
 
 -- ---- three answers
@@ -47,32 +47,41 @@ greater_from Greater h other = refl
 
 -- ---- an entry by its index
 
-abbrev pub at : List Entry → ℕ → Entry
-at es i = get_or es i (record { key = Flag false; place = 0 })
+abbrev pub at : List PlacedKey → ℕ → PlacedKey
+at es i = get_or es i (record { key = Number (pos 0); place = 0 })
 
-pub key_at : (es : List Entry) (i : ℕ) (d : Value) → i < length es → get_or (keys es) i d ≡ value_of (at es i).key
-key_at es i d h = get_or-map (λ (e : Entry). value_of e.key) es i _ d h
+pub key_at : (es : List PlacedKey) (i : ℕ) (d : Value) → i < length es → get_or (keys es) i d ≡ value_of (at es i).key
+key_at es i d h = get_or-map (λ (e : PlacedKey). value_of e.key) es i _ d h
 
-pub place_at : (es : List Entry) (i d : ℕ) → i < length es → get_or (places es) i d ≡ (at es i).place
-place_at es i d h = get_or-map (λ (e : Entry). e.place) es i _ d h
+pub place_at : (es : List PlacedKey) (i d : ℕ) → i < length es → get_or (places es) i d ≡ (at es i).place
+place_at es i d h = get_or-map (λ (e : PlacedKey). e.place) es i _ d h
 
-pub key_there : (es : List Entry) (i : ℕ) → i < length es → Contains (keys es) (value_of (at es i).key)
-key_there es i h = subst (Contains (keys es)) (key_at es i Absent h) (Contains-get_or (keys es) i Absent (omega (arith, length-map es (λ (e : Entry). value_of e.key))))
+pub key_there : (es : List PlacedKey) (i : ℕ) → i < length es → Contains (keys es) (value_of (at es i).key)
+key_there es i h = subst (Contains (keys es)) (key_at es i Absent h) (Contains-get_or (keys es) i Absent (omega (arith, length-map es (λ (e : PlacedKey). value_of e.key))))
 
-pub one_key : (es : List Entry) (k : ℕ) → k + 1 < length es → value_of (at es k).key ≡ value_of (at es (k + 1)).key → HaveOneKey es k
+pub one_key : (es : List PlacedKey) (k : ℕ) → k + 1 < length es → value_of (at es k).key ≡ value_of (at es (k + 1)).key → HaveOneKey es k
 one_key es k h same = key_at es k Absent (omega arith) ∙ same ∙ sym (key_at es (k + 1) Absent h)
 
-pub one_key-same : (es : List Entry) (k : ℕ) → k + 1 < length es → HaveOneKey es k → value_of (at es k).key ≡ value_of (at es (k + 1)).key
+pub one_key-same : (es : List PlacedKey) (k : ℕ) → k + 1 < length es → HaveOneKey es k → value_of (at es k).key ≡ value_of (at es (k + 1)).key
 one_key-same es k h same = sym (key_at es k Absent (omega arith)) ∙ same ∙ key_at es (k + 1) Absent h
+
+-- what is not below another one stands behind it
+turn : (e f : PlacedKey) → is_lt (entry_cmp f e) ≡ false → InTurn e f
+turn e f below = by (value_cmp (value_of f.key) (value_of e.key)) refl
+  where
+    by : (o : Ordering) → value_cmp (value_of f.key) (value_of e.key) ≡ o → InTurn e f
+    by Less is = absurd (let up = ap (λ o. is_lt (ordering_then o (nat_cmp f.place e.place))) (sym is) ∙ below in cc)
+    by Equal is = inr (inr (sym (same_key f.key e.key is), ge_from_not_lt f.place e.place (ap (λ o. is_lt (ordering_then o (nat_cmp f.place e.place))) (sym is) ∙ below)))
+    by Greater is = ⊎_elim inl (λ l. inr (inl l)) (less_splits e.key f.key (value_total.antisymm (value_of e.key) (value_of f.key) ∙ ap ordering_reverse is))
 
 -- ---- entries in order
 
-module _ (es : List Entry) (up : IsSorted ghosts.cmp es) where
+module _ (es : List PlacedKey) (up : IsSorted ghosts.cmp es) where
   in_order : IsSorted entry_cmp es
   in_order k d low high = ap is_lt (sym (entry_cmp-is (get_or es (k + 1) d) (get_or es k d))) ∙ up k d low high
 
   far : (i j : ℕ) → i ≤ j → j < length es → is_lt (entry_cmp (at es j) (at es i)) ≡ false
-  far i j = sorted_far (λ x y. is_lt (entry_cmp x y)) (ranks_by entry_total (λ (e : Entry). e)) es in_order i j _
+  far i j = sorted_far (λ x y. is_lt (entry_cmp x y)) (ranks_by entry_total (λ (e : PlacedKey). e)) es in_order i j _
 
   abbrev key : ℕ → Value
   key i = value_of (at es i).key
@@ -90,10 +99,14 @@ module _ (es : List Entry) (up : IsSorted ghosts.cmp es) where
   pub places_rise : (i j : ℕ) → i ≤ j → j < length es → key i ≡ key j → (at es i).place ≤ (at es j).place
   places_rise i j h l same = ge_from_not_lt (at es j).place (at es i).place (ap (λ o. is_lt (ordering_then o (nat_cmp (at es j).place (at es i).place))) (sym (Equal_from_same (key j) (key i) (sym same))) ∙ far i j h l)
 
+  -- each stands in front of the next
+  pub in_turn : AreInTurn es
+  in_turn k d h = turn (get_or es k d) (get_or es (k + 1) d) (in_order k d (omega arith) h)
+
   -- keys of one kind rise where no two neighbours have one
   pub rising : ((k : ℕ) → k + 1 < length es → ¬ HaveOneKey es k) → AreOneKind (keys es) → AreRising (keys es)
   rising apart kind k d h =
-      let l : k + 1 < length es = omega (arith, length-map es (λ (e : Entry). value_of e.key)) in
+      let l : k + 1 < length es = omega (arith, length-map es (λ (e : PlacedKey). value_of e.key)) in
       let m : k < length es = omega arith in
       let one = kind (key (k + 1)) (key k) (key_there es (k + 1) l) (key_there es k m) in
       let other : value_cmp (key (k + 1)) (key k) ≡ Equal → ⊥ = λ e. apart k l (one_key es k l (sym (same_key (at es (k + 1)).key (at es k).key e))) in

@@ -1,6 +1,7 @@
 -- Values in the order of their keys.
-use Rattle.std.specs.Prelude.{◌↔◌, List, [], ◌∷◌, if◌then◌else◌}
+use Rattle.std.specs.Prelude.{◌↔◌, List, [], ◌∷◌}
 use Rattle.std.specs.List.{Contains}
+use Rattle.base_lists.specs.InOrder.{insert_by, in_order as sorted}
 use Rattle.frozen_model.specs.Values.{Value, Values, NoValue, And, key_less, key_of}
 
 -- the values as the items of a set or map
@@ -10,14 +11,12 @@ row (v ∷ vs) = And v (row vs)
 
 -- in front of the first whose key is not less
 abbrev pub insert : Value → List Value → List Value
-insert v [] = v ∷ []
-insert v (u ∷ us) = if key_less (key_of u) (key_of v) then u ∷ insert v us else v ∷ u ∷ us
+insert v us = insert_by key_less key_of v us
 
 -- by rising key
 abbrev pub in_order : List Value → List Value
-in_order [] = []
-in_order (v ∷ vs) = insert v (in_order vs)
+in_order vs = sorted key_less key_of vs
 
 -- a value is in both or in neither
-abbrev pub HaveSameMembers : List Value → List Value → Type 0
-HaveSameMembers vs us = (v : Value) → Contains vs v ↔ Contains us v
+abbrev pub HaveSameMembers : {X : Type 0} → List X → List X → Type 0
+HaveSameMembers {X} vs us = (v : X) → Contains vs v ↔ Contains us v

@@ -4,7 +4,7 @@ use Rattle.std.specs.List.{enumerate_from}
 use Rattle.std.specs.List.Sorted.{IsPermutation}
 use Rattle.frozen_model.specs.Trees.{Holder, AList}
 use Rattle.frozen_model.specs.Values.{Value, key_of, Rises}
-use Rattle.key_order.specs.declared.repeats.Entry.{Entry}
+use Rattle.key_order.specs.declared.repeats.PlacedKey.{PlacedKey}
 use Rattle.key_order.specs.Keys.{value_of, AreOneKind, AreRising}
 use Rattle.key_order.specs.Entries.{keys, places, placed}
 use Rattle.key_order.specs.Repeats.{HasNoRepeat}
@@ -32,7 +32,7 @@ RisingIsInOrder = (h : Holder) (vs us : List Value) → h ≢ AList → AreOneKi
 
 -- entries that number keys from 0 have these keys, at places that differ
 abbrev pub NumberedPlacesDiffer : Type 0
-NumberedPlacesDiffer = (ks : List Value) (es : List Entry) → placed es ≡ enumerate_from 0 ks → (keys es ≡ ks) × AllPairs (λ p q. p ≢ q) (places es)
+NumberedPlacesDiffer = (ks : List Value) (es : List PlacedKey) → placed es ≡ enumerate_from 0 ks → (keys es ≡ ks) × AllPairs (λ p q. p ≢ q) (places es)
 
 -- and of keys that are numbered from 0 none repeats exactly where no two are the same
 abbrev pub NoneRepeatsWhereKeysDiffer : Type 0
@@ -40,5 +40,5 @@ NoneRepeatsWhereKeysDiffer = (ks : List Value) → HasNoRepeat (enumerate_from 0
 
 -- the items at the places of entries are in order where the entries' keys rise
 abbrev pub EntriesAreInOrder : Type 0
-EntriesAreInOrder = (item : ℕ → Value) (old new : List Entry) → All (λ e. key_of (item e.place) ≡ value_of e.key) old → AreOneKind (keys old) → IsPermutation old new → AreRising (keys new)
+EntriesAreInOrder = (item : ℕ → Value) (old new : List PlacedKey) → All (λ e. key_of (item e.place) ≡ value_of e.key) old → AreOneKind (keys old) → IsPermutation old new → AreRising (keys new)
     → map (λ e. item e.place) new ≡ in_order (map (λ e. item e.place) old)

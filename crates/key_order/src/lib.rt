@@ -6,7 +6,7 @@ pub mod laws;
 mod repeats;
 
 pub use key::{Key, compare_keys};
-pub use repeats::{Entry, Repeat, least_repeat};
+pub use repeats::{PlacedKey, Repeat, least_repeat};
 
 #[cfg(test)]
 mod tests;

@@ -3,15 +3,15 @@
 ghost use Rattle.std.specs.Prelude.{◌≡◌, ◌≢◌, ◌≤◌, ◌⊎◌, length, Some, AllPairs, IfNone, IfSome, MatchOption};
 ghost use Rattle.std.specs.List.Sorted.{IsPermutation};
 ghost use Rattle.key_order.specs.Keys.{AreOneKind, AreRising};
-ghost use Rattle.key_order.specs.Entries.{keys, places, placed};
+ghost use Rattle.key_order.specs.Entries.{keys, places, placed, AreInTurn};
 ghost use Rattle.key_order.specs.Neighbours.{IsLeastNeighbour};
 ghost use Rattle.key_order.specs.Repeats.{HasNoRepeat, IsLeastRepeat};
 
 use crate::key::Key;
 
-/// A key and its place. Entries are in order by key, and those of one key by place.
+/// A key and its place, in order by key, and those of one key by place.
 #[derive(Clone, Copy, PartialEq, Eq, PartialOrd, Ord)]
-pub struct Entry<'a> {
+pub struct PlacedKey<'a> {
     pub key: Key<'a>,
     pub place: u64,
 }
@@ -24,11 +24,13 @@ pub struct Repeat {
 }
 
 /// The least place whose key stands at an earlier place too, with that earlier place, and `None` where no key stands at
-/// two places. The entries are sorted: it takes the time of a sort, and no memory.
-pub fn least_repeat(entries: &mut [Entry<'_>]) -> Option<Repeat>
+/// two places. The entries are left in order. It takes the time of a sort, and no memory.
+pub fn least_repeat(entries: &mut [PlacedKey<'_>]) -> Option<Repeat>
     requires { AllPairs (λ p q. p ≢ q) (places entries.old) }
-    ensures least { MatchOption result (HasNoRepeat (placed entries.old)) (λ r. IsLeastRepeat (placed entries.old) r.first r.second) }
+    ensures least { MatchOption result (HasNoRepeat (placed entries.old))
+        (λ r. IsLeastRepeat (placed entries.old) r.first r.second) }
     ensures moved { IsPermutation entries.old entries.new }
+    ensures ordered { AreInTurn entries.new }
     ensures rising { AreOneKind (keys entries.old) → IfNone result (AreRising (keys entries.new)) }
 {
     entries.sort_unstable();
@@ -36,7 +38,7 @@ pub fn least_repeat(entries: &mut [Entry<'_>]) -> Option<Repeat>
 }
 
 /// The places of two neighbours of one key, of such the ones where the second is the least.
-fn least_neighbour(entries: &[Entry<'_>]) -> Option<Repeat>
+fn least_neighbour(entries: &[PlacedKey<'_>]) -> Option<Repeat>
     ensures { IsLeastNeighbour entries.now (length entries.now) result }
 {
     let mut least = None;

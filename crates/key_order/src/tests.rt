@@ -2,7 +2,7 @@
 ghost use Rattle.std.specs.Prelude.{◌≡◌, ◌≢◌, AllPairs, IfOk};
 ghost use Rattle.key_order.specs.Entries.{places};
 
-use crate::{Entry, Key, Repeat, compare_keys, least_repeat};
+use crate::{Key, PlacedKey, Repeat, compare_keys, least_repeat};
 use std::alloc::{AllocError, Global};
 use std::cmp::Ordering;
 use std::test::Fail;
@@ -26,13 +26,13 @@ fn keys_of_one_kind_are_compared(rt: HostRuntime) {
 }
 
 /// The keys at the places 0, 1, 2 and so on.
-fn numbered<'a>(alloc: Global, keys: &[Key<'a>]) -> Result<Vec<Entry<'a>>, AllocError>
+fn numbered<'a>(alloc: Global, keys: &[Key<'a>]) -> Result<Vec<PlacedKey<'a>>, AllocError>
     ensures { IfOk result (λ es. AllPairs (λ p q. p ≢ q) (places es.items)) }
 {
     let mut entries = Vec::new(alloc);
     for key in keys {
         let place = entries.len() as u64;
-        entries.push(Entry { key: *key, place })?;
+        entries.push(PlacedKey { key: *key, place })?;
     }
     Ok(entries)
 }

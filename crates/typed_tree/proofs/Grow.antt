@@ -1,4 +1,5 @@
 -- A pool that grows: what stood there keeps its value, and every node has the value of its parts.
+use Rattle.frozen_model.specs.Trees.{AList, ASet, AMap}
 use Rattle.std.proofs.Common.{◌≡◌, ℕ, zero, suc, ◌+◌, ◌<◌, ◌≤◌, List, [], ◌∷◌, ◌++◌, true, ◌&&◌, nat_lt, nat_le, length, take, drop, map, get_or, refl, sym, ap, ◌∙◌, subst, arith, length-append, length-drop}
 use Rattle.std.specs.List.{list_all}
 use Rattle.std.proofs.Math.ListN.{get_or-append}
@@ -7,12 +8,13 @@ use Rattle.std.proofs.lemmas.Bool.{and_parts, and_from, leb-true}
 use Rattle.std.proofs.lemmas.Bool.Decides.{nat_tests}
 use Rattle.std.proofs.lemmas.List.{take-append-le, drop-append-le}
 use Rattle.frozen_model.specs.Values.{Value, Bytes, Items, Absent, Present, Record, And}
-use Rattle.idl_tokens.specs.Spans.{may_begin, may_cut}
+use Rattle.std.specs.Str.{is_utf8}
+use Rattle.block_region.specs.Space.{Span}
 use Rattle.typed_tree.specs.declared.spot.Spot.{Spot}
 use Rattle.typed_tree.specs.declared.spot.Spot.TheVariants as s
 use Rattle.typed_tree.specs.declared.spot.Run.{Run}
 use Rattle.typed_tree.specs.declared.spot.Link.{Link}
-use Rattle.typed_tree.specs.Spots.{Store, linked, pick, value_of, known, all_linked, fits_at, fits}
+use Rattle.typed_tree.specs.Spots.{Store, part, linked, pick, by_twos, value_of, known, all_linked, ids_rise, has_block, fits_at, fits}
 use Rattle.typed_tree.specs.Pools.{Grows}
 
 pub below-true : (m n : ℕ) → nat_lt m n ≡ true → m < n
@@ -30,31 +32,12 @@ pub known-more : (st : Store) (vs : List Value) (xs : List Spot) (x : Spot) → 
 known-more st vs [] x = refl
 known-more st vs (y ∷ ys) x = known-more st (vs ++ value_of st vs y ∷ []) ys x
 
--- ---- more links, text and bytes
+-- ---- more links and bytes
 
 range-stays : {A : Type 0} (xs more : List A) (first count : ℕ) → first + count ≤ length xs → take count (drop first (xs ++ more)) ≡ take count (drop first xs)
 range-stays xs more first count h =
     let room : count ≤ length (drop first xs) = omega (arith, length-drop first xs) in
     ap (take count) (drop-append-le first xs more (omega arith)) ∙ take-append-le count (drop first xs) more room
-
-begins-append : (xs ys : List ℕ) → may_begin xs ≡ true → may_begin ys ≡ true → may_begin (xs ++ ys) ≡ true
-begins-append [] ys g h = h
-begins-append (x ∷ xs) ys g h = g
-
--- what it is to be cut, in parts
-pub cut-parts : (text : List ℕ) (i j : ℕ) → may_cut text i j ≡ true → (j ≤ length text) × (may_begin (drop i text) ≡ true) × (may_begin (drop j text) ≡ true)
-cut-parts text i j e =
-    let a = and_parts (nat_le j (length text) && may_begin (drop i text)) (may_begin (drop j text)) e in
-    let b = and_parts (nat_le j (length text)) (may_begin (drop i text)) a.0 in
-    (leb-true j (length text) b.0, b.1, a.1)
-
-cut-stays : (text more : List ℕ) (i j : ℕ) → i ≤ j → may_begin more ≡ true → may_cut text i j ≡ true → may_cut (text ++ more) i j ≡ true
-cut-stays text more i j l g e =
-    let p = cut-parts text i j e in
-    let in_text : j ≤ length text = p.0 in
-    let from = ap may_begin (drop-append-le i text more (omega arith)) ∙ begins-append (drop i text) more p.1 g in
-    let to = ap may_begin (drop-append-le j text more in_text) ∙ begins-append (drop j text) more p.2 g in
-    and_from _ _ (and_from _ _ (le-test j (length (text ++ more)) (omega (arith, length-append text more))) from) to
 
 module _ (old new : Store) (grows : Grows old new) where
   linked-stays : (n : ℕ) (r : Run) → all_linked old n r ≡ true → linked new r ≡ linked old r
@@ -69,19 +52,27 @@ module _ (old new : Store) (grows : Grows old new) where
       let more = ap (λ (ls : List Link). length ls) grows.links in
       and_from _ _ (le-test (r.first + r.count) (length new.links) (omega (arith, there, more, length-append old.links grows.more_links))) (ap (list_all (λ l. nat_lt l.node n)) (linked-stays n r h) ∙ p.1)
 
+  part-stays : (at : Span) → has_block old at ≡ true → part new.bytes at ≡ part old.bytes at
+  part-stays at h =
+      let there = leb-true (at.start + at.len) (length old.bytes) h in
+      ap (λ (bs : List ℕ). take at.len (drop at.start bs)) grows.bytes ∙ range-stays old.bytes grows.more_bytes at.start at.len there
+
+  block-stays : (at : Span) → has_block old at ≡ true → has_block new at ≡ true
+  block-stays at h =
+      let there = leb-true (at.start + at.len) (length old.bytes) h in
+      let more = ap (λ (bs : List ℕ). length bs) grows.bytes in
+      le-test (at.start + at.len) (length new.bytes) (omega (arith, there, more, length-append old.bytes grows.more_bytes))
+
   value-stays : (vs : List Value) (n : ℕ) (x : Spot) → fits_at old n x ≡ true → value_of new vs x ≡ value_of old vs x
   value-stays vs n (s.Flag b) h = refl
   value-stays vs n (s.Int z) h = refl
-  value-stays vs n (s.Text at) h =
-      let there = (cut-parts old.text at.start (at.start + at.len) h).0 in
-      ap (λ (bs : List ℕ). Bytes (take at.len (drop at.start bs))) grows.text ∙ ap Bytes (range-stays old.text grows.more_text at.start at.len there)
-  value-stays vs n (s.Bytes at) h =
-      let there = leb-true (at.start + at.len) (length old.bytes) h in
-      ap (λ (bs : List ℕ). Bytes (take at.len (drop at.start bs))) grows.bytes ∙ ap Bytes (range-stays old.bytes grows.more_bytes at.start at.len there)
-  value-stays vs n (s.List r) h = ap (λ (ls : List Link). Items (pick vs ls)) (linked-stays n r h)
-  value-stays vs n (s.Set r) h = ap (λ (ls : List Link). Items (pick vs ls)) (linked-stays n r h)
-  value-stays vs n (s.Map r) h = ap (λ (ls : List Link). Items (pick vs ls)) (linked-stays n r h)
-  value-stays vs n (s.Struct r) h = ap (λ (ls : List Link). Record (map (λ l. l.id) ls) (pick vs ls)) (linked-stays n r h)
+  value-stays vs n (s.Text at) h = ap Bytes (part-stays at (and_parts (has_block old at) (is_utf8 (part old.bytes at)) h).0)
+  value-stays vs n (s.Bytes at) h = ap Bytes (part-stays at h)
+  value-stays vs n (s.List r) h = ap (λ (ls : List Link). Items AList (pick vs ls)) (linked-stays n r h)
+  value-stays vs n (s.Set r) h = ap (λ (ls : List Link). Items ASet (pick vs ls)) (linked-stays n r h)
+  value-stays vs n (s.Map r) h = ap (λ (ls : List Link). Items AMap (by_twos (pick vs ls))) (linked-stays n r h)
+  value-stays vs n (s.Struct r) h =
+      ap (λ (ls : List Link). Record (map (λ l. l.id) ls) (pick vs ls)) (linked-stays n r (and_parts (all_linked old n r) (ids_rise (linked old r)) h).0)
   value-stays vs n s.Absent h = refl
   value-stays vs n (s.Present k) h = refl
 
@@ -95,15 +86,15 @@ module _ (old new : Store) (grows : Grows old new) where
   fits_at-stays n (s.Flag b) h = refl
   fits_at-stays n (s.Int z) h = refl
   fits_at-stays n (s.Text at) h =
-      ap (λ (bs : List ℕ). may_cut bs at.start (at.start + at.len)) grows.text ∙ cut-stays old.text grows.more_text at.start (at.start + at.len) (omega arith) grows.begins h
-  fits_at-stays n (s.Bytes at) h =
-      let there = leb-true (at.start + at.len) (length old.bytes) h in
-      let more = ap (λ (bs : List ℕ). length bs) grows.bytes in
-      le-test (at.start + at.len) (length new.bytes) (omega (arith, there, more, length-append old.bytes grows.more_bytes))
+      let p = and_parts (has_block old at) (is_utf8 (part old.bytes at)) h in
+      and_from _ _ (block-stays at p.0) (ap is_utf8 (part-stays at p.0) ∙ p.1)
+  fits_at-stays n (s.Bytes at) h = block-stays at h
   fits_at-stays n (s.List r) h = all_linked-stays n r h
   fits_at-stays n (s.Set r) h = all_linked-stays n r h
   fits_at-stays n (s.Map r) h = all_linked-stays n r h
-  fits_at-stays n (s.Struct r) h = all_linked-stays n r h
+  fits_at-stays n (s.Struct r) h =
+      let p = and_parts (all_linked old n r) (ids_rise (linked old r)) h in
+      and_from _ _ (all_linked-stays n r p.0) (ap ids_rise (linked-stays n r p.0) ∙ p.1)
   fits_at-stays n s.Absent h = refl
   fits_at-stays n (s.Present k) h = h
 
@@ -144,10 +135,11 @@ value-same st us vs n (s.Flag b) e h = refl
 value-same st us vs n (s.Int z) e h = refl
 value-same st us vs n (s.Text at) e h = refl
 value-same st us vs n (s.Bytes at) e h = refl
-value-same st us vs n (s.List r) e h = ap Items (picked-same st us vs n r e h)
-value-same st us vs n (s.Set r) e h = ap Items (picked-same st us vs n r e h)
-value-same st us vs n (s.Map r) e h = ap Items (picked-same st us vs n r e h)
-value-same st us vs n (s.Struct r) e h = ap (Record (map (λ l. l.id) (linked st r))) (picked-same st us vs n r e h)
+value-same st us vs n (s.List r) e h = ap (Items AList) (picked-same st us vs n r e h)
+value-same st us vs n (s.Set r) e h = ap (Items ASet) (picked-same st us vs n r e h)
+value-same st us vs n (s.Map r) e h = ap (λ ws. Items AMap (by_twos ws)) (picked-same st us vs n r e h)
+value-same st us vs n (s.Struct r) e h =
+    ap (Record (map (λ l. l.id) (linked st r))) (picked-same st us vs n r e (and_parts (all_linked st n r) (ids_rise (linked st r)) h).0)
 value-same st us vs n s.Absent e h = refl
 value-same st us vs n (s.Present k) e h = ap Present (e k (below-true k n h))
 

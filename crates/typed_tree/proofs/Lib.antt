@@ -1,8 +1,12 @@
 pub mod Grow
 pub mod Growing
-pub mod Kept
+pub mod Builders
 pub mod Keyed
+pub mod Linked
+pub mod Filling
 pub mod Paired
 pub mod Reading
 pub mod Stack
 pub mod Structs
+pub mod Typed
+pub mod Celled

@@ -9,6 +9,9 @@ use Rattle.std.proofs.lemmas.List.{map-append, length-map, take-map, drop-map}
 use Rattle.std.proofs.lemmas.List.Folds.{list_all-append, list_all-map}
 use Rattle.frozen_model.specs.Values.{Value, Absent, And}
 use Rattle.typed_tree.specs.declared.spot.Spot.{Spot}
+use Rattle.typed_tree.specs.declared.spot.Spot.TheVariants as s
+use Rattle.typed_tree.specs.declared.tree.TreeKind.{TreeKind}
+use Rattle.typed_tree.specs.References.{spot_kind}
 use Rattle.typed_tree.specs.declared.spot.Run.{Run}
 use Rattle.typed_tree.specs.Spots.{Store, linked, all_linked, item_link, pick, value_of, values, fits}
 use Rattle.typed_tree.specs.Pools.{Grows}
@@ -41,6 +44,10 @@ below-drop : (n : ℕ) (i : ℕ) (ks : List ℕ) → below n ks → below n (dro
 below-drop n zero ks h = h
 below-drop n (suc i) [] h = refl
 below-drop n (suc i) (k ∷ ks) h = below-drop n i ks (and_parts (nat_lt k n) (list_all (λ k. nat_lt k n) ks) h).1
+
+-- other numbers from a place on
+pub below-replaced : (n base : ℕ) (ks js zs : List ℕ) → below n ks → below n js → zs ≡ take base ks ++ js → below n zs
+below-replaced n base ks js zs h g e = ap (list_all (λ k. nat_lt k n)) e ∙ list_all-append (λ k. nat_lt k n) (take base ks) js ∙ and_from _ _ (below-take n base ks h) g
 
 -- more nodes leave the trees
 pub trees-stay : (vs us : List Value) (ks : List ℕ) → below (length vs) ks → trees_in (vs ++ us) ks ≡ trees_in vs ks
@@ -106,6 +113,9 @@ below-rest-is xs xs' ks ks' i h e f = ap (λ (zs : List Spot). list_all (λ k. n
 pub rest-is : (base : ℕ) (ks : List ℕ) → take (length ks - base) (drop base ks) ≡ drop base ks
 rest-is base ks = ap (λ n. take n (drop base ks)) (sym (length-drop base ks)) ∙ take-length (drop base ks)
 
+pub length-rest : (base : ℕ) (ks : List ℕ) → length (take (length ks - base) (drop base ks)) ≡ length ks - base
+length-rest base ks = ap (λ zs. length zs) (rest-is base ks) ∙ length-drop base ks
+
 -- the last n trees and those before them, by their numbers
 module _ (us vs : List Value) (same : us ≡ vs) (ks front back : List ℕ) (base n : ℕ) (front_is : front ≡ take base ks) (back_is : back ≡ drop base ks) (place : base + n ≡ length ks) where
   base-is : base ≡ length (trees_in vs ks) - n
@@ -116,3 +126,23 @@ module _ (us vs : List Value) (same : us ≡ vs) (ks front back : List ℕ) (bas
 
   pub trees-back : trees_in us back ≡ last n (trees_in vs ks)
   trees-back = ap (λ (zs : List Value). trees_in zs back) same ∙ ap (trees_in vs) back_is ∙ sym (drop-map (λ k. get_or vs k Absent) base ks) ∙ ap (λ i. drop i (trees_in vs ks)) base-is
+
+-- ---- kinds
+
+-- as what the nodes of these numbers were made
+abbrev pub kinds_of : List Spot → List ℕ → List TreeKind
+kinds_of xs ks = map (λ k. spot_kind (get_or xs k s.Absent)) ks
+
+kinds-stay : (xs ys : List Spot) (ks : List ℕ) → below (length xs) ks → kinds_of (xs ++ ys) ks ≡ kinds_of xs ks
+kinds-stay xs ys [] h = refl
+kinds-stay xs ys (k ∷ ks) h =
+    let p = and_parts (nat_lt k (length xs)) (list_all (λ k. nat_lt k (length xs)) ks) h in
+    ap (λ x. spot_kind x ∷ kinds_of (xs ++ ys) ks) (get_or-append xs ys s.Absent k (below-true k (length xs) p.0)) ∙ ap (λ r. spot_kind (get_or xs k s.Absent) ∷ r) (kinds-stay xs ys ks p.1)
+
+pub kinds-put-is : (xs xs' : List Spot) (ks ks' : List ℕ) (x : Spot) (n : ℕ) → below (length xs) ks → n ≡ length xs → xs' ≡ xs ++ x ∷ [] → ks' ≡ ks ++ n ∷ [] → kinds_of xs' ks' ≡ kinds_of xs ks ++ spot_kind x ∷ []
+kinds-put-is xs xs' ks ks' x n h e b c =
+    ap (λ (zs : List Spot). kinds_of zs ks') b ∙ ap (kinds_of (xs ++ x ∷ [])) c
+    ∙ map-append (λ k. spot_kind (get_or (xs ++ x ∷ []) k s.Absent)) ks (n ∷ [])
+    ∙ ap (λ r. r ++ spot_kind (get_or (xs ++ x ∷ []) n s.Absent) ∷ []) (kinds-stay xs (x ∷ []) ks h)
+    ∙ ap (λ k. kinds_of xs ks ++ spot_kind (get_or (xs ++ x ∷ []) k s.Absent) ∷ []) e
+    ∙ ap (λ y. kinds_of xs ks ++ spot_kind y ∷ []) (get_or-append_seam xs x [] s.Absent)

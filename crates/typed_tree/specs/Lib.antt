@@ -1,7 +1,11 @@
 pub mod Parts
 pub mod Spots
 pub mod Pools
-pub mod Told
+pub mod References
 pub mod Fields
+pub mod Rooms
 pub mod Trees
 pub mod Tables
+pub mod Sizes
+pub mod Ranges
+pub mod Filled

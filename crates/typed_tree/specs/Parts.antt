@@ -2,7 +2,9 @@
 use Rattle.std.specs.Prelude.{◌≡◌, ℕ, ℤ, pos, List, [], ◌∷◌, if◌then◌else◌, Option, Some, None}
 use Rattle.std.specs.Ordering.{int_eq}
 use Rattle.std.specs.Str.{IsUtf8}
+use Rattle.frozen_model.specs.Trees.{AList, ASet, AMap}
 use Rattle.frozen_model.specs.Values.{Truth, Number, Value, One, Bytes, Items, Present, Record, Values, NoValue, And}
+use Rattle.typed_tree.specs.Spots.{pair}
 
 abbrev pub IsFlag : Value → Type 0
 IsFlag (One (Truth b)) = Unit {0}
@@ -20,9 +22,27 @@ abbrev pub IsBytes : Value → Type 0
 IsBytes (Bytes bs) = Unit {0}
 IsBytes _ = ⊥
 
+abbrev pub IsList : Value → Type 0
+IsList (Items AList vs) = Unit {0}
+IsList _ = ⊥
+
+abbrev pub IsSet : Value → Type 0
+IsSet (Items ASet vs) = Unit {0}
+IsSet _ = ⊥
+
+abbrev pub IsMap : Value → Type 0
+IsMap (Items AMap vs) = Unit {0}
+IsMap _ = ⊥
+
+-- a list or a set
+abbrev pub IsRow : Value → Type 0
+IsRow (Items AList vs) = Unit {0}
+IsRow (Items ASet vs) = Unit {0}
+IsRow _ = ⊥
+
 -- a list, a set or a map
 abbrev pub IsItems : Value → Type 0
-IsItems (Items vs) = Unit {0}
+IsItems (Items h vs) = Unit {0}
 IsItems _ = ⊥
 
 abbrev pub IsRecord : Value → Type 0
@@ -33,22 +53,14 @@ abbrev pub IsPresent : Value → Type 0
 IsPresent (Present v) = Unit {0}
 IsPresent _ = ⊥
 
--- an entry of a map
-abbrev pub pair : Value → Value → Value
-pair key value = Record (1 ∷ 2 ∷ []) (And key (And value NoValue))
-
-abbrev pub IsPair : Value → Type 0
-IsPair (Record ids (And key (And value NoValue))) = ids ≡ 1 ∷ 2 ∷ []
-IsPair _ = ⊥
-
--- keys and values by turns, as the entries of a map
+-- keys and values by turns, as the pairs of a map
 abbrev pub pairs : List Value → List Value
 pairs (key ∷ value ∷ vs) = pair key value ∷ pairs vs
 pairs _ = []
 
--- the items of a list, a set or a map
+-- the items of a list or a set, or the pairs of a map
 abbrev pub items_of : Value → Values
-items_of (Items vs) = vs
+items_of (Items h vs) = vs
 items_of _ = NoValue
 
 -- the ids of a struct's fields, and their values

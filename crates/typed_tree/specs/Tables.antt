@@ -1,9 +1,10 @@
 -- Keys that become those of a set or a map.
-use Rattle.std.specs.Prelude.{◌≡◌, ◌≢◌, ℕ, ◌<◌, List, [], ◌∷◌, length, map, slice_index_or, Result, MatchResult, AllPairs, All}
+use Rattle.std.specs.Prelude.{◌≡◌, ◌≢◌, ℕ, ◌<◌, ◌+◌, ◌*◌, slice_index, List, [], ◌∷◌, length, map, slice_index_or}
+use Rattle.std.specs.Prelude.{Result, MatchResult, AllPairs, All}
 use Rattle.std.specs.List.{enumerate_from}
 use Rattle.std.specs.List.Sorted.{IsPermutation}
 use Rattle.frozen_model.specs.Values.{Value, Absent, key_of}
-use Rattle.key_order.specs.declared.repeats.Entry.{Entry}
+use Rattle.key_order.specs.declared.repeats.PlacedKey.{PlacedKey}
 use Rattle.key_order.specs.Keys.{AreRising}
 use Rattle.key_order.specs.Entries.{keys, placed}
 use Rattle.key_order.specs.Repeats.{IsLeastRepeat}
@@ -21,8 +22,8 @@ abbrev pub TellsRepeat : {T : Type 0} → List Value → Result T TableFault →
 TellsRepeat ks r = MatchResult r (λ _. AllPairs (λ k l. k ≢ l) ks) (IsFaultOf ks)
 
 -- the entries of keys that are numbered from 0, moved so that the keys rise
-pub record AreSorted (ks : List Value) (es : List Entry) : Type 0 where
-  pub numbered : List Entry
+pub record AreSorted (ks : List Value) (es : List PlacedKey) : Type 0 where
+  pub numbered : List PlacedKey
   pub numbers : placed numbered ≡ enumerate_from 0 ks
   pub moved : IsPermutation numbered es
   pub rising : AreRising (keys es)
@@ -40,3 +41,8 @@ pub record AreOrdered (ks : List Value) (ps : List ℕ) : Type 0 where
 abbrev pub evens : List ℕ → List ℕ
 evens (k ∷ v ∷ ks) = k ∷ evens ks
 evens _ = []
+
+-- the keys and values at these places of pairs, by turns
+abbrev pub turned : List ℕ → List ℕ → List ℕ
+turned ks [] = []
+turned ks (p ∷ ps) = slice_index ks (2 * p) ∷ slice_index ks (2 * p + 1) ∷ turned ks ps

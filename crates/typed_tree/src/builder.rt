@@ -1,226 +1,160 @@
-//! The builder of trees.
-ghost use Rattle.std.specs.Prelude.{◌≡◌, true, nat_lt, length};
+//! The builder of trees: its stack, its room, and how a node is put.
+ghost use Rattle.std.specs.Prelude.{◌≡◌, true, ◌+◌, ◌-◌, ◌^◌, ◌<◌, ◌≤◌, nat_lt, length, vec_len, vec_capacity};
 ghost use Rattle.std.specs.List.{list_all};
 
-use crate::entries::entries_in_order;
-use crate::fault::TableFault;
-use crate::fields::field_links;
-use crate::order::keys_in_order;
+use crate::joined::Joined;
 use crate::pool::Pool;
+use crate::room::Room;
 use crate::spot::Spot;
 use crate::tree::Tree;
+use block_region::Block;
 use std::alloc::{AllocError, Global};
 
-/// A stack of trees. Each call puts one on top, made of those that were on top.
+/// A stack of trees. Each call puts one on top, made of those that were on top. It has room for nodes and bytes, with
+/// which a call takes no memory; where there is less, it grows.
 #[derive(Drop)]
 pub struct Builder {
-    pool: Pool,
+    pub(crate) pool: Pool,
     // The numbers of the trees' nodes.
-    stack: Vec<u32>,
+    pub(crate) stack: Vec<u32>,
+    pub(crate) room: Room,
     ghost placed: { list_all (λ n. nat_lt n (length pool.nodes.items)) stack.items ≡ true },
+    // Each node is linked at most once.
+    ghost linked: { vec_len pool.links + vec_len stack ≤ vec_len pool.nodes },
+    ghost few: { vec_len pool.nodes + room.nodes < 2 ^ 32 },
+    ghost few_bytes: { room.bytes < 2 ^ 64 - 1 },
+    ghost for_nodes: { vec_len pool.nodes + room.nodes ≤ vec_capacity pool.nodes },
+    ghost for_links: { vec_len pool.nodes + room.nodes ≤ vec_capacity pool.links },
+    ghost for_numbers: { vec_len stack + room.nodes ≤ vec_capacity stack },
+    ghost for_bytes: { pool.bytes.taken + room.bytes ≤ length pool.bytes.bytes },
 }
 
 impl Builder {
-    ghost use Rattle.std.specs.Prelude.{◌<◌, ◌≤◌, ◌*◌, ◌≤ℤ◌, pos, All, ◌++◌, ◌∷◌, [], IfOk, OnOk, OnErr, map, drop};
-    ghost use Rattle.frozen_model.specs.Values.{Truth, Number, One, Bytes, Items, Absent, Present, key_of};
-    ghost use Rattle.typed_tree.specs.Spots.{fits_at, value_of};
-    ghost use Rattle.typed_tree.specs.Pools.{store_of, values_of};
-    ghost use Rattle.typed_tree.specs.Told.{whole};
-    ghost use Rattle.typed_tree.specs.Trees.{trees_in, trees, last, but_last, HasRoom};
-    ghost use Rattle.typed_tree.specs.Fields.{natural, record_of};
-    ghost use Rattle.typed_tree.specs.Tables.{TellsRepeat};
-    ghost use Rattle.typed_tree.specs.Parts.{pairs};
-    ghost use Rattle.key_order.specs.Keys.{AreOneKind};
-    ghost use Rattle.key_order.specs.InOrder.{row, in_order};
+    ghost use Rattle.std.specs.Prelude.{◌++◌, ◌∷◌, [], IsOk, IfOk, OnOk, OnErr, take, max};
+    ghost use Rattle.typed_tree.specs.Spots.{fits_at, value_of, part};
+    ghost use Rattle.typed_tree.specs.Pools.{store_of, values_of, Grows};
+    ghost use Rattle.typed_tree.specs.References.{value_of_tree, kind_of_tree, spot_kind};
+    ghost use Rattle.typed_tree.specs.Rooms.{HasRoom, greater, room_of};
+    ghost use Rattle.typed_tree.specs.Trees.{trees_in, trees, kinds, room, joined, joined_kind, Pushes, IsAsBefore};
 
-    /// An empty stack.
+    /// An empty stack without room.
     pub fn new(alloc: Global) -> Builder
-        ensures { trees result ≡ [] }
+        ensures trees { trees result ≡ [] }
+        ensures kinds { kinds result ≡ [] }
+        ensures room { room result ≡ room_of 0 0 }
     {
         Builder {
             pool: Pool::new(alloc),
             stack: Vec::new(alloc),
+            room: Room::NONE,
         }
     }
 
-    // Makes room for one more tree, and gives the number that its node will have.
-    fn reserve(&mut self) -> Result<u32, AllocError>
+    /// An empty stack with room for so many nodes, of which there are fewer than 2^32, and so many bytes of texts and
+    /// binaries, fewer than 2^64 - 1.
+    pub fn sized(alloc: Global, nodes: u64, bytes: u64) -> Result<Builder, AllocError>
+        ensures trees { IfOk result (λ b. trees b ≡ []) }
+        ensures kinds { IfOk result (λ b. kinds b ≡ []) }
+        ensures room { IfOk result (λ b. room b ≡ room_of nodes bytes) }
+    {
+        if nodes >= 0x1_0000_0000 || bytes == u64::MAX {
+            return Err(AllocError);
+        }
+        let pool = Pool::sized(alloc, nodes as usize, bytes as usize)?;
+        let stack = Vec::with_capacity(alloc, nodes as usize)?;
+        let room = Room { nodes, bytes };
+        Ok(Builder { pool, stack, room })
+    }
+
+    // Makes room for what is used.
+    pub(crate) fn make_room(&mut self, used: Room) -> Result<(), AllocError>
         ensures store { store_of self.new.pool ≡ store_of self.old.pool }
         ensures nodes { self.new.pool.nodes.items ≡ self.old.pool.nodes.items }
         ensures stack { self.new.stack.items ≡ self.old.stack.items }
-        ensures room { OnOk result (HasRoom self.new) }
-        ensures number { IfOk result (λ n. n ≡ length self.old.pool.nodes.items) }
+        ensures room { OnOk result (self.new.room ≡ greater self.old.room used) }
+        ensures failed { OnErr result (IsAsBefore self.old self.new) }
+        ensures same { OnOk result ((trees self.new ≡ trees self.old) × (kinds self.new ≡ kinds self.old)) }
+        ensures enough { HasRoom self.old.room used → IsOk result }
     {
-        let number = self.pool.reserve()?;
-        self.stack.reserve(1)?;
-        Ok(number)
+        if self.room.covers(used) {
+            return Ok(());
+        }
+        self.grow(self.room.greater(used))
     }
 
-    // Puts a node and its number where room was made for them.
-    fn put(&mut self, number: u32, spot: Spot)
-        requires room { HasRoom self.old }
-        requires number { number ≡ length self.old.pool.nodes.items }
-        requires fit { fits_at (store_of self.old.pool) (length self.old.pool.nodes.items) spot ≡ true }
-        ensures { trees self.new ≡ trees self.old ++ value_of (store_of self.old.pool) (values_of self.old.pool) spot ∷ [] }
+    // Takes memory for this room, which is at least what there is.
+    fn grow(&mut self, room: Room) -> Result<(), AllocError>
+        requires nodes { self.old.room.nodes ≤ room.nodes }
+        requires bytes { self.old.room.bytes ≤ room.bytes }
+        ensures store { store_of self.new.pool ≡ store_of self.old.pool }
+        ensures nodes { self.new.pool.nodes.items ≡ self.old.pool.nodes.items }
+        ensures stack { self.new.stack.items ≡ self.old.stack.items }
+        ensures room { OnOk result (self.new.room ≡ room) }
+        ensures failed { OnErr result (self.new.room ≡ self.old.room) }
     {
+        if room.nodes >= 0x1_0000_0000 - self.pool.nodes.len() as u64 || room.bytes == u64::MAX {
+            return Err(AllocError);
+        }
+        self.pool.reserve_nodes(room.nodes as usize)?;
+        self.stack.reserve(room.nodes as usize)?;
+        self.pool.reserve_bytes(room.bytes as usize)?;
+        self.room = room;
+        Ok(())
+    }
+
+    // Adds bytes where there is room for them, and says where they stand.
+    pub(crate) fn put_bytes(&mut self, x: &[u8]) -> Block
+        requires { length x.now ≤ self.old.room.bytes }
+        ensures nodes { self.new.pool.nodes ≡ self.old.pool.nodes }
+        ensures stack { self.new.stack ≡ self.old.stack }
+        ensures room { self.new.room ≡ room_of self.old.room.nodes (self.old.room.bytes - length x.now) }
+        ensures grows { Grows (store_of self.old.pool) (store_of self.new.pool) }
+        ensures inside { result.start + result.len ≡ length (store_of self.new.pool).bytes }
+        ensures added { part (store_of self.new.pool).bytes result ≡ x.now }
+    {
+        let block = self.pool.add_bytes(x);
+        self.room.bytes -= x.len() as u64;
+        block
+    }
+
+    // Puts a node, and its number on the stack, where there is room for it.
+    pub(crate) fn put(&mut self, spot: Spot)
+        requires room { 0 < self.old.room.nodes }
+        requires fit { fits_at (store_of self.old.pool) (length self.old.pool.nodes.items) spot ≡ true }
+        ensures pushed { Pushes self.old self.new (value_of (store_of self.old.pool) (values_of self.old.pool) spot)
+            (spot_kind spot) (room_of 1 0) }
+    {
+        let number = self.pool.nodes.len() as u32;
         self.pool.put(spot);
         self.stack.push_reserved(number);
+        self.room.nodes -= 1;
     }
 
     // Puts a node that refers to nothing but nodes.
-    fn push(&mut self, spot: Spot) -> Result<(), AllocError>
+    pub(crate) fn push(&mut self, spot: Spot) -> Result<(), AllocError>
         requires { fits_at (store_of self.old.pool) (length self.old.pool.nodes.items) spot ≡ true }
-        ensures pushed { OnOk result (trees self.new ≡ trees self.old ++ value_of (store_of self.old.pool) (values_of self.old.pool) spot ∷ []) }
-        ensures failed { OnErr result (trees self.new ≡ trees self.old) }
+        ensures pushed { OnOk result (Pushes self.old self.new
+            (value_of (store_of self.old.pool) (values_of self.old.pool) spot)
+            (spot_kind spot) (room_of 1 0)) }
+        ensures failed { OnErr result (IsAsBefore self.old self.new) }
+        ensures enough { HasRoom (room self.old) (room_of 1 0) → IsOk result }
     {
-        let number = self.reserve()?;
-        self.put(number, spot);
-        Ok(())
-    }
-
-    /// Puts a flag.
-    pub fn flag(&mut self, x: bool) -> Result<(), AllocError>
-        ensures pushed { OnOk result (trees self.new ≡ trees self.old ++ One (Truth x) ∷ []) }
-        ensures failed { OnErr result (trees self.new ≡ trees self.old) }
-    {
-        self.push(Spot::Flag(x))
-    }
-
-    /// Puts a number.
-    pub fn int(&mut self, x: i64) -> Result<(), AllocError>
-        ensures pushed { OnOk result (trees self.new ≡ trees self.old ++ One (Number x) ∷ []) }
-        ensures failed { OnErr result (trees self.new ≡ trees self.old) }
-    {
-        self.push(Spot::Int(x))
-    }
-
-    /// Puts an optional that is absent.
-    pub fn absent(&mut self) -> Result<(), AllocError>
-        ensures pushed { OnOk result (trees self.new ≡ trees self.old ++ Absent ∷ []) }
-        ensures failed { OnErr result (trees self.new ≡ trees self.old) }
-    {
-        self.push(Spot::Absent)
-    }
-
-    /// Puts a text.
-    pub fn text(&mut self, x: &str) -> Result<(), AllocError>
-        ensures pushed { OnOk result (trees self.new ≡ trees self.old ++ Bytes x.now ∷ []) }
-        ensures failed { OnErr result (trees self.new ≡ trees self.old) }
-    {
-        let number = self.reserve()?;
-        let at = self.pool.add_text(x)?;
-        self.put(number, Spot::Text(at));
-        Ok(())
-    }
-
-    /// Puts bytes.
-    pub fn bytes(&mut self, x: &[u8]) -> Result<(), AllocError>
-        ensures pushed { OnOk result (trees self.new ≡ trees self.old ++ Bytes x.now ∷ []) }
-        ensures failed { OnErr result (trees self.new ≡ trees self.old) }
-    {
-        let number = self.reserve()?;
-        let at = self.pool.add_bytes(x)?;
-        self.put(number, Spot::Bytes(at));
-        Ok(())
-    }
-
-    /// Puts an optional that is present, around the last tree.
-    pub fn present(&mut self) -> Result<(), AllocError>
-        requires { 0 < length (trees self.old) }
-        ensures wrapped { OnOk result (trees self.new ≡ but_last 1 (trees self.old) ++ map Present (last 1 (trees self.old))) }
-        ensures failed { OnErr result (trees self.new ≡ trees self.old) }
-    {
-        let number = self.reserve()?;
-        let base = self.stack.len() - 1;
-        let inner = self.stack[base];
-        self.stack.truncate(base);
-        self.put(number, Spot::Present(inner));
-        Ok(())
-    }
-
-    /// Puts a list of the last `n` trees.
-    pub fn list(&mut self, n: u64) -> Result<(), AllocError>
-        requires { n ≤ length (trees self.old) }
-        ensures joined { OnOk result (trees self.new ≡ but_last n (trees self.old) ++ Items (row (last n (trees self.old))) ∷ []) }
-        ensures failed { OnErr result (trees self.new ≡ trees self.old) }
-    {
-        let number = self.reserve()?;
-        let base = self.stack.len() - n as usize;
-        let run = self.pool.add_items(&self.stack[base..])?;
-        self.stack.truncate(base);
-        self.put(number, Spot::List(run));
-        Ok(())
-    }
-
-    /// Puts a set of the last `n` trees, keys of one kind, in rising order.
-    pub fn set(&mut self, n: u64) -> Result<(), TableFault>
-        requires there { n ≤ length (trees self.old) }
-        requires kind { AreOneKind (last n (trees self.old)) }
-        ensures joined { OnOk result (trees self.new ≡ but_last n (trees self.old) ++ Items (row (in_order (last n (trees self.old)))) ∷ []) }
-        ensures repeated { TellsRepeat (last n (trees self.old)) result }
-        ensures failed { OnErr result (trees self.new ≡ trees self.old) }
-    {
-        let number = self.reserve()?;
-        let base = self.stack.len() - n as usize;
-        let nodes = keys_in_order(*self.stack.allocator(), &self.pool, &self.stack[base..])?;
-        let run = self.pool.add_items(&nodes)?;
-        self.stack.truncate(base);
-        self.put(number, Spot::Set(run));
-        Ok(())
-    }
-
-    // Adds nodes for the entries that the trees from `base` on make, and gives them by rising key.
-    fn add_entries(&mut self, base: usize) -> Result<Vec<u32>, TableFault>
-        requires there { base ≤ length (trees self.old) }
-        requires kind { AreOneKind (map key_of (pairs (drop base (trees self.old)))) }
-        ensures trees { trees self.new ≡ trees self.old }
-        ensures stack { self.new.stack.items ≡ self.old.stack.items }
-        ensures ordered { IfOk result (λ ks. trees_in (values_of self.new.pool) ks.items ≡ in_order (pairs (drop base (trees self.old)))) }
-        ensures still { IfOk result (λ ks. list_all (λ k. nat_lt k (length self.new.pool.nodes.items)) ks.items ≡ true) }
-        ensures repeated { TellsRepeat (map key_of (pairs (drop base (trees self.old)))) result }
-    {
-        entries_in_order(*self.stack.allocator(), &mut self.pool, &self.stack[base..])
-    }
-
-    /// Puts a map of the last `n` keys and values by turns, each key before its value, in rising order of the keys, which are of one kind.
-    pub fn map(&mut self, n: u64) -> Result<(), TableFault>
-        requires there { 2 * n ≤ length (trees self.old) }
-        requires kind { AreOneKind (map key_of (pairs (last (2 * n) (trees self.old)))) }
-        ensures joined { OnOk result (trees self.new ≡ but_last (2 * n) (trees self.old) ++ Items (row (in_order (pairs (last (2 * n) (trees self.old))))) ∷ []) }
-        ensures repeated { TellsRepeat (map key_of (pairs (last (2 * n) (trees self.old)))) result }
-        ensures failed { OnErr result (trees self.new ≡ trees self.old) }
-    {
-        let base = self.stack.len() - 2 * n as usize;
-        let nodes = self.add_entries(base)?;
-        let number = self.reserve()?;
-        let run = self.pool.add_items(&nodes)?;
-        self.stack.truncate(base);
-        self.put(number, Spot::Map(run));
-        Ok(())
-    }
-
-    /// Puts a struct of the last trees, the k-th of them under the k-th id. They may stand in any order.
-    pub fn structure(&mut self, ids: &[i16]) -> Result<(), AllocError>
-        requires natural { All (λ id. pos 0 ≤ℤ id) ids.now }
-        requires there { length ids.now ≤ length (trees self.old) }
-        ensures joined { OnOk result (trees self.new ≡ but_last (length ids.now) (trees self.old) ++ record_of (natural ids.now) (last (length ids.now) (trees self.old)) ∷ []) }
-        ensures failed { OnErr result (trees self.new ≡ trees self.old) }
-    {
-        let number = self.reserve()?;
-        let base = self.stack.len() - ids.len();
-        let fields = field_links(*self.stack.allocator(), ids, &self.stack[base..])?;
-        let run = self.pool.add_links(&fields)?;
-        self.stack.truncate(base);
-        self.put(number, Spot::Struct(run));
+        self.make_room(Room { nodes: 1, bytes: 0 })?;
+        self.put(spot);
         Ok(())
     }
 
     /// The one tree.
     pub fn finish(self) -> Tree
         requires { length (trees self) ≡ 1 }
-        ensures { trees self ≡ whole result ∷ [] }
+        ensures tree { trees self ≡ value_of_tree result ∷ [] }
+        ensures kind { kinds self ≡ kind_of_tree result ∷ [] }
     {
-        let Builder { pool, stack } = self;
+        let Builder {
+            pool,
+            stack,
+            room: _,
+        } = self;
         let top = stack[0];
         Tree { pool, top }
     }

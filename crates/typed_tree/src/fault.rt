@@ -7,7 +7,8 @@ use std::alloc::AllocError;
 /// Why trees are not joined into a set or a map.
 #[derive(Clone, Copy, Debug, PartialEq, Eq)]
 pub enum TableFault {
-    /// A key stands at two places among the keys, counted from 0: `second` is the least place whose key stands at an earlier one too, which is `first`.
+    /// A key stands at two places among the keys, counted from 0: `second` is the least place whose key stands at an
+    /// earlier one too, which is `first`.
     RepeatedKey { first: u64, second: u64 },
     /// There is no memory.
     NoMemory,

@@ -1,43 +1,47 @@
 //! The accessors of trees. None takes memory, and none walks more than the node that it reads.
-ghost use Rattle.std.specs.Prelude.{◌≡◌, ◌↔◌, ◌<◌, ◌≤◌, ◌+◌, ◌^◌, length, map, true, IsTrue, nat_lt, string_bytes, option_map};
+ghost use Rattle.std.specs.Prelude.{◌≡◌, ◌↔◌, ◌<◌, ◌≤◌, ◌+◌, ◌^◌, length, map, true, pos, IsTrue, nat_lt, option_map};
 ghost use Rattle.std.specs.List.{list_all};
+ghost use Rattle.std.specs.Str.{is_utf8};
 ghost use Rattle.frozen_model.specs.Values.{Truth, Number, One, Bytes, Present, NoValue, count, nth, key_less};
-ghost use Rattle.idl_tokens.specs.Spans.{may_cut};
 ghost use Rattle.key_order.specs.Keys.{value_of as key_value, IsOneKind};
-ghost use Rattle.typed_tree.specs.Parts.{IsFlag, IsInt, IsText, IsBytes, IsItems, IsRecord, IsPresent, IsPair, pair, items_of, ids_of, fields_of, field_of};
-ghost use Rattle.typed_tree.specs.Spots.{part, pick, linked, all_linked, fits_at, value_of};
+ghost use Rattle.typed_tree.specs.Parts.{IsFlag, IsInt, IsText, IsBytes, IsRow, IsMap, IsItems, IsRecord, IsPresent};
+ghost use Rattle.typed_tree.specs.Parts.{items_of, ids_of, fields_of, field_of};
+ghost use Rattle.typed_tree.specs.Spots.{part, pick, pair, by_twos, linked, all_linked, ids_rise, has_block, fits_at};
+ghost use Rattle.typed_tree.specs.Spots.{value_of};
 ghost use Rattle.typed_tree.specs.Pools.{store_of, values_of};
-ghost use Rattle.typed_tree.specs.Told.{told, whole, kind_of, HasForm, kind_at, value_at};
+ghost use Rattle.typed_tree.specs.References.{value_of_ref, value_of_tree, kind_of_ref, kind_of_tree, HasForm};
+ghost use Rattle.typed_tree.specs.References.{spot_kind, value_at};
 
 use crate::pool::Pool;
 use crate::spot::{Link, Run, Spot};
 use crate::tree::{Tree, TreeKind, TreeRef};
-use idl_tokens::{Span, text_at};
+use block_region::Block;
 use key_order::Key;
 use std::cmp::Ordering;
 use std::str;
 
-// A part of the pool's text.
-fn text_of(pool: &Pool, at: Span) -> &str
-    requires { may_cut (string_bytes pool.now.text) at.start (at.start + at.len) ≡ true }
-    ensures { result.now ≡ part (string_bytes pool.now.text) at }
+// The bytes of a block of the pool.
+fn bytes_at(pool: &Pool, at: Block) -> &[u8]
+    requires { has_block (store_of pool.now) at ≡ true }
+    ensures { result.now ≡ part (store_of pool.now).bytes at }
 {
-    text_at(&pool.text, at)
+    pool.bytes.bytes(&at)
 }
 
-// A part of the pool's bytes.
-fn bytes_of(pool: &Pool, at: Span) -> &[u8]
-    requires { at.start + at.len ≤ length pool.now.bytes.items }
-    ensures { result.now ≡ part pool.now.bytes.items at }
+// The text of a block of the pool.
+fn text_at(pool: &Pool, at: Block) -> &str
+    requires there { has_block (store_of pool.now) at ≡ true }
+    requires text { is_utf8 (part (store_of pool.now).bytes at) ≡ true }
+    ensures { result.now ≡ part (store_of pool.now).bytes at }
 {
-    let start = at.start as usize;
-    &pool.bytes[start..start + at.len as usize]
+    unsafe { str::from_utf8_unchecked(bytes_at(pool, at)) }
 }
 
 impl Tree {
     /// The whole value.
     pub fn top(&self) -> TreeRef<'_>
-        ensures { told result ≡ whole self.now }
+        ensures value { value_of_ref result ≡ value_of_tree self.now }
+        ensures kind { kind_of_ref result ≡ kind_of_tree self.now }
     {
         TreeRef {
             pool: &self.pool,
@@ -49,16 +53,17 @@ impl Tree {
 impl<'a> TreeRef<'a> {
     fn spot(self) -> Spot
         ensures fit { fits_at (store_of self.entry.pool.now) self.entry.node result ≡ true }
-        ensures told { told self.entry ≡ value_of (store_of self.entry.pool.now) (values_of self.entry.pool.now) result }
-        ensures kind { kind_at result ≡ kind_of self.entry }
+        ensures value { value_of_ref self.entry
+            ≡ value_of (store_of self.entry.pool.now) (values_of self.entry.pool.now) result }
+        ensures kind { spot_kind result ≡ kind_of_ref self.entry }
     {
         self.pool.nodes[self.node as usize]
     }
 
     /// As what the value was made.
     pub fn kind(self) -> TreeKind
-        ensures kind { result ≡ kind_of self.entry }
-        ensures form { HasForm result (told self.entry) }
+        ensures kind { result ≡ kind_of_ref self.entry }
+        ensures form { HasForm result (value_of_ref self.entry) }
     {
         match self.spot() {
             Spot::Flag(_) => TreeKind::Flag,
@@ -76,8 +81,8 @@ impl<'a> TreeRef<'a> {
 
     /// Whether a flag is set.
     pub fn flag(self) -> bool
-        requires { IsFlag (told self) }
-        ensures { told self.entry ≡ One (Truth result) }
+        requires { IsFlag (value_of_ref self) }
+        ensures { value_of_ref self.entry ≡ One (Truth result) }
     {
         match self.spot() {
             Spot::Flag(x) => x,
@@ -87,8 +92,8 @@ impl<'a> TreeRef<'a> {
 
     /// A number.
     pub fn int(self) -> i64
-        requires { IsInt (told self) }
-        ensures { told self.entry ≡ One (Number result) }
+        requires { IsInt (value_of_ref self) }
+        ensures { value_of_ref self.entry ≡ One (Number result) }
     {
         match self.spot() {
             Spot::Int(x) => x,
@@ -98,13 +103,13 @@ impl<'a> TreeRef<'a> {
 
     /// A text. What was made as bytes is read through for UTF-8.
     pub fn text(self) -> &'a str
-        requires { IsText (told self) }
-        ensures { told self.entry ≡ Bytes result.now }
+        requires { IsText (value_of_ref self) }
+        ensures { value_of_ref self.entry ≡ Bytes result.now }
     {
         let pool = self.pool;
         match self.spot() {
-            Spot::Text(at) => text_of(pool, at),
-            Spot::Bytes(at) => match str::from_utf8(bytes_of(pool, at)) {
+            Spot::Text(at) => text_at(pool, at),
+            Spot::Bytes(at) => match str::from_utf8(bytes_at(pool, at)) {
                 Ok(text) => text,
                 Err(_) => "",
             },
@@ -114,36 +119,34 @@ impl<'a> TreeRef<'a> {
 
     /// Bytes; of a text its UTF-8.
     pub fn bytes(self) -> &'a [u8]
-        requires { IsBytes (told self) }
-        ensures { told self.entry ≡ Bytes result.now }
+        requires { IsBytes (value_of_ref self) }
+        ensures { value_of_ref self.entry ≡ Bytes result.now }
     {
         let pool = self.pool;
         match self.spot() {
-            Spot::Text(at) => text_of(pool, at).as_bytes(),
-            Spot::Bytes(at) => bytes_of(pool, at),
+            Spot::Text(at) | Spot::Bytes(at) => bytes_at(pool, at),
             _ => &[],
         }
     }
 
     /// The key that a flag, a number, a text or bytes are.
     pub fn key(self) -> Key<'a>
-        requires { IsOneKind (told self) (told self) }
-        ensures { key_value result ≡ told self.entry }
+        requires { IsOneKind (value_of_ref self) (value_of_ref self) }
+        ensures { key_value result ≡ value_of_ref self.entry }
     {
         let pool = self.pool;
         match self.spot() {
             Spot::Flag(x) => Key::Flag(x),
             Spot::Int(x) => Key::Number(x),
-            Spot::Text(at) => Key::Bytes(text_of(pool, at).as_bytes()),
-            Spot::Bytes(at) => Key::Bytes(bytes_of(pool, at)),
+            Spot::Text(at) | Spot::Bytes(at) => Key::Bytes(bytes_at(pool, at)),
             _ => Key::Bytes(&[]),
         }
     }
 
     /// The value that is present.
     pub fn inner(self) -> TreeRef<'a>
-        requires { IsPresent (told self) }
-        ensures { told self.entry ≡ Present (told result) }
+        requires { IsPresent (value_of_ref self) }
+        ensures { value_of_ref self.entry ≡ Present (value_of_ref result) }
     {
         if let Spot::Present(node) = self.spot() {
             return TreeRef {
@@ -167,22 +170,37 @@ impl<'a> TreeRef<'a> {
         &self.pool.links[first..first + run.count as usize]
     }
 
-    // The links to the items of a list, a set or a map; of any other value none.
+    // The links to the items of a list or a set; of any other value none.
     fn items(self) -> &'a [Link]
-        ensures items { pick (values_of self.entry.pool.now) result.now ≡ items_of (told self.entry) }
+        ensures items { IsRow (value_of_ref self.entry)
+            → pick (values_of self.entry.pool.now) result.now ≡ items_of (value_of_ref self.entry) }
         ensures below { list_all (λ l. nat_lt l.node self.entry.node) result.now ≡ true }
         ensures few { length result.now < 2 ^ 32 }
     {
         match self.spot() {
-            Spot::List(run) | Spot::Set(run) | Spot::Map(run) => self.links(run),
+            Spot::List(run) | Spot::Set(run) => self.links(run),
+            _ => &[],
+        }
+    }
+
+    // The links to the keys and the values of a map by turns; of any other value none.
+    fn turns(self) -> &'a [Link]
+        ensures pairs { IsMap (value_of_ref self.entry)
+            → by_twos (pick (values_of self.entry.pool.now) result.now) ≡ items_of (value_of_ref self.entry) }
+        ensures below { list_all (λ l. nat_lt l.node self.entry.node) result.now ≡ true }
+        ensures few { length result.now < 2 ^ 32 }
+    {
+        match self.spot() {
+            Spot::Map(run) => self.links(run),
             _ => &[],
         }
     }
 
     // The links to the fields of a struct; of any other value none.
     fn fields(self) -> &'a [Link]
-        ensures ids { map (λ l. l.id) result.now ≡ ids_of (told self.entry) }
-        ensures fields { pick (values_of self.entry.pool.now) result.now ≡ fields_of (told self.entry) }
+        ensures ids { map (λ l. l.id) result.now ≡ ids_of (value_of_ref self.entry) }
+        ensures fields { pick (values_of self.entry.pool.now) result.now ≡ fields_of (value_of_ref self.entry) }
+        ensures rising { ids_rise result.now ≡ true }
         ensures below { list_all (λ l. nat_lt l.node self.entry.node) result.now ≡ true }
         ensures few { length result.now < 2 ^ 32 }
     {
@@ -195,7 +213,7 @@ impl<'a> TreeRef<'a> {
     // What a link to a part leads to.
     fn part(self, link: &Link) -> TreeRef<'a>
         requires { link.now.node < self.node }
-        ensures { told result ≡ value_at self.entry.pool.now link.now.node }
+        ensures { value_of_ref result ≡ value_at self.entry.pool.now link.now.node }
     {
         TreeRef {
             pool: self.pool,
@@ -203,62 +221,84 @@ impl<'a> TreeRef<'a> {
         }
     }
 
-    /// How many items a list or a set has, or entries a map.
+    /// How many items a list or a set has, or pairs a map.
     pub fn len(self) -> u64
-        requires { IsItems (told self) }
-        ensures { result ≡ count (items_of (told self.entry)) }
+        requires { IsItems (value_of_ref self) }
+        ensures { result ≡ count (items_of (value_of_ref self.entry)) }
     {
-        self.items().len() as u64
+        match self.spot() {
+            Spot::List(run) => u64::from(run.count),
+            Spot::Set(run) => u64::from(run.count),
+            Spot::Map(run) => u64::from(run.count / 2),
+            _ => 0,
+        }
     }
 
     /// Whether a list, a set or a map is empty.
     pub fn is_empty(self) -> bool
-        requires { IsItems (told self) }
-        ensures { IsTrue result ↔ (items_of (told self.entry) ≡ NoValue) }
+        requires { IsItems (value_of_ref self) }
+        ensures { IsTrue result ↔ (items_of (value_of_ref self.entry) ≡ NoValue) }
     {
-        self.items().is_empty()
+        self.len() == 0
     }
 
-    /// An item of a list, a set or a map, by its place from 0.
+    /// An item of a list or a set, by its place from 0.
     pub fn item(self, i: u64) -> TreeRef<'a>
-        requires { i < count (items_of (told self)) }
-        ensures { told result ≡ nth (items_of (told self.entry)) i }
+        requires row { IsRow (value_of_ref self) }
+        requires inside { i < count (items_of (value_of_ref self)) }
+        ensures { value_of_ref result ≡ nth (items_of (value_of_ref self.entry)) i }
     {
         self.part(&self.items()[i as usize])
     }
 
-    /// The key and the value of an entry of a map, by its place from 0.
+    /// The key and the value of a pair of a map, by its place from 0.
     pub fn entry(self, i: u64) -> (TreeRef<'a>, TreeRef<'a>)
-        requires inside { i < count (items_of (told self)) }
-        requires entry { IsPair (nth (items_of (told self)) i) }
-        ensures { nth (items_of (told self.entry)) i ≡ pair (told result.0) (told result.1) }
+        requires map { IsMap (value_of_ref self) }
+        requires inside { i < count (items_of (value_of_ref self)) }
+        ensures { nth (items_of (value_of_ref self.entry)) i ≡ pair (value_of_ref result.0) (value_of_ref result.1) }
     {
-        let entry = self.item(i);
-        let fields = entry.fields();
-        (entry.part(&fields[0]), entry.part(&fields[1]))
+        let links = self.turns();
+        let at = 2 * i as usize;
+        (self.part(&links[at]), self.part(&links[at + 1]))
     }
 
-    /// A field of a struct by its id. `None` exactly where it has none.
+    /// A field of a struct by its place from 0, in the order of ids.
+    pub fn field_at(self, i: u64) -> TreeRef<'a>
+        requires { i < count (fields_of (value_of_ref self)) }
+        ensures { value_of_ref result ≡ nth (fields_of (value_of_ref self.entry)) i }
+    {
+        self.part(&self.fields()[i as usize])
+    }
+
+    /// A field of a struct by its id, found by halving. `None` exactly where it has none.
     pub fn field(self, id: i16) -> Option<TreeRef<'a>>
-        requires { IsRecord (told self) }
-        ensures { option_map told result ≡ field_of (told self.entry) id }
+        requires { IsRecord (value_of_ref self) }
+        ensures { option_map value_of_ref result ≡ field_of (value_of_ref self.entry) id }
+    {
+        if id < 0 {
+            return None;
+        }
+        self.natural_field(id.unsigned_abs())
+    }
+
+    fn natural_field(self, id: u16) -> Option<TreeRef<'a>>
+        ensures { option_map value_of_ref result ≡ field_of (value_of_ref self.entry) (pos id) }
     {
         let links = self.fields();
-        for link in links {
-            if i32::from(link.id) == i32::from(id) {
-                return Some(self.part(link));
-            }
+        match links.binary_search_by_key(&id, |link| link.id) {
+            Ok(i) => Some(self.part(&links[i])),
+            Err(_) => None,
         }
-        None
     }
 }
 
-/// How two keys of one kind stand to each other: false is before true, numbers go by size, and texts and bytes byte by byte.
+/// How two keys of one kind stand to each other: false is before true, numbers go by size, and texts and bytes byte
+/// by byte.
 pub fn compare_keys(a: TreeRef<'_>, b: TreeRef<'_>) -> Ordering
-    requires { IsOneKind (told a) (told b) }
-    ensures less { (result ≡ Ordering.Less) ↔ (key_less (told a.entry) (told b.entry) ≡ true) }
-    ensures equal { (result ≡ Ordering.Equal) ↔ (told a.entry ≡ told b.entry) }
-    ensures greater { (result ≡ Ordering.Greater) ↔ (key_less (told b.entry) (told a.entry) ≡ true) }
+    requires { IsOneKind (value_of_ref a) (value_of_ref b) }
+    ensures less { (result ≡ Ordering.Less) ↔ (key_less (value_of_ref a.entry) (value_of_ref b.entry) ≡ true) }
+    ensures equal { (result ≡ Ordering.Equal) ↔ (value_of_ref a.entry ≡ value_of_ref b.entry) }
+    ensures greater { (result ≡ Ordering.Greater) ↔ (key_less (value_of_ref b.entry) (value_of_ref a.entry) ≡ true) }
 {
     key_order::compare_keys(a.key(), b.key())
 }

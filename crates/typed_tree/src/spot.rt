@@ -1,6 +1,6 @@
 //! The nodes of a pool.
 
-use idl_tokens::Span;
+use block_region::Block;
 
 /// Links that stand one after another: the place of the first, and how many.
 #[derive(Clone, Copy)]
@@ -9,19 +9,19 @@ pub struct Run {
     pub count: u32,
 }
 
-/// A node. What it has of parts, of text and of bytes stands elsewhere in its pool.
+/// A node. What it has of parts and of bytes stands elsewhere in its pool.
 #[derive(Clone, Copy)]
 pub enum Spot {
     Flag(bool),
     Int(i64),
-    /// A part of the pool's text.
-    Text(Span),
-    /// A part of the pool's bytes.
-    Bytes(Span),
+    /// Bytes that are UTF-8.
+    Text(Block),
+    Bytes(Block),
     List(Run),
     Set(Run),
-    /// Its entries, each a struct of field 1, the key, and field 2, the value.
+    /// Its keys and values by turns.
     Map(Run),
+    /// Its fields by rising id.
     Struct(Run),
     Absent,
     /// The number of the node that is present.

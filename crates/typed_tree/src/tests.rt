@@ -1,12 +1,9 @@
-// Each call once, on small trees.
-ghost use Rattle.std.specs.Prelude.{◌≡◌, ◌∷◌, [], IfOk, pos, negsuc, true};
-ghost use Rattle.frozen_model.specs.Values.{Truth, Number, One, Bytes, Items, Absent, Present, Record, NoValue, And};
-ghost use Rattle.typed_tree.specs.Told.{whole};
+//! Each call once, on small trees.
 
-use crate::{Builder, TableFault, Tree, TreeKind, compare_keys};
-use std::alloc::{AllocError, Global};
+use crate::{Builder, TableFault, TreeKind, compare_keys, default_field, default_of};
 use std::cmp::Ordering;
 use std::test::Fail;
+use thrift_idl::parse;
 
 #[test]
 fn a_flag(rt: HostRuntime) -> Result<(), Fail> {
@@ -130,27 +127,49 @@ fn a_key_that_repeats(rt: HostRuntime) -> Result<(), Fail> {
     Ok(())
 }
 
-/// A list of one pair: a key and a value.
-fn pairs(alloc: Global) -> Result<Tree, AllocError>
-    ensures { IfOk result (λ t. whole t ≡ Items (And (Record (1 ∷ 2 ∷ []) (And (One (Number (pos 3))) (And (One (Truth true)) NoValue))) NoValue)) }
-{
-    let mut builder = Builder::new(alloc);
+#[test]
+fn fields_in_any_order(rt: HostRuntime) -> Result<(), Fail> {
+    let mut builder = Builder::new(rt.alloc());
     builder.flag(true)?;
     builder.int(3)?;
     builder.structure(&[2, 1])?;
-    builder.list(1)?;
-    Ok(builder.finish())
+    let tree = builder.finish();
+    let record = tree.top();
+    assert_eq!(rt; record.kind(), TreeKind::Struct);
+    assert_eq!(rt; record.field_at(0).int(), 3);
+    assert!(rt; record.field(1).is_some());
+    assert!(rt; record.field(2).is_some());
+    assert!(rt; record.field(3).is_none());
+    assert!(rt; record.field(-1).is_none());
+    Ok(())
 }
 
 #[test]
-fn fields_in_any_order(rt: HostRuntime) -> Result<(), Fail> {
-    let tree = pairs(rt.alloc())?;
-    let (key, value) = tree.top().entry(0);
-    assert_eq!(rt; key.int(), 3);
-    assert!(rt; value.flag());
-    let pair = tree.top().item(0);
-    assert_eq!(rt; pair.kind(), TreeKind::Struct);
-    assert!(rt; pair.field(3).is_none());
-    assert!(rt; pair.field(2).is_some());
+fn a_user(rt: HostRuntime) -> Result<(), Fail> {
+    let mut builder = Builder::sized(rt.alloc(), 3, 3)?;
+    builder.text("Ada")?;
+    builder.int(36)?;
+    builder.structure(&[1, 2])?;
+    let tree = builder.finish();
+    let user = tree.top();
+    assert_eq!(rt; user.field_at(0).bytes(), b"Ada".as_slice());
+    assert_eq!(rt; user.field_at(1).int(), 36);
+    Ok(())
+}
+
+#[test]
+fn what_nobody_gave(rt: HostRuntime) -> Result<(), Fail> {
+    let text = b"struct S {1: required i64 n = 7 2: optional string s = \"no\"}";
+    let def = parse(rt.alloc(), text)?;
+    let root = def.root();
+    let tree = default_of(rt.alloc(), root)?;
+    assert_eq!(rt; tree.top().kind(), TreeKind::Struct);
+    for i in 0..root.field_count() {
+        let tree = default_field(rt.alloc(), root.field_at(i))?;
+        match tree.top().kind() {
+            TreeKind::Int => assert_eq!(rt; tree.top().int(), 7),
+            kind => assert_eq!(rt; kind, TreeKind::Absent),
+        }
+    }
     Ok(())
 }

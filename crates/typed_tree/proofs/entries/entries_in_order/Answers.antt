@@ -1,15 +1,16 @@
--- The keys are put in order, and then the entries are added by their places.
-use Rattle.std.proofs.Common.{◌≢◌, ◌∙◌, ◌+◌, ◌*◌, ◌<◌, ℕ, List, ap, sym, subst, length, nat_lt, slice_index_or, arith}
-use Rattle.std.specs.List.{All, AllPairs, list_all}
+-- The keys are put in order, and then the nodes are taken by their places.
+use Rattle.std.proofs.Common.{◌≡◌, ◌≢◌, ◌∙◌, ◌+◌, ◌*◌, ◌<◌, ℕ, List, refl, ap, sym, subst, length, map, nat_lt, slice_index_or, arith}
+use Rattle.std.specs.List.{All, AllByRecursion, AllPairs, list_all}
 use Rattle.std.proofs.lemmas.List.{length-map}
+use Rattle.std.proofs.lemmas.List.Elements.{recursion_from_All}
 use Rattle.std.proofs.lemmas.Result.{err_from_is_err_and}
-use Rattle.frozen_model.specs.Values.{Value, Absent}
+use Rattle.frozen_model.specs.Values.{Value, Absent, key_of}
 use Rattle.key_order.specs.Keys.{AreOneKind}
 use Rattle.typed_tree.specs.Parts.{pairs}
 use Rattle.typed_tree.specs.Pools.{values_of}
-use Rattle.typed_tree.specs.Tables.{IsFaultOf, picked}
+use Rattle.typed_tree.specs.Tables.{IsFaultOf, AreOrdered, picked, turned}
 use Rattle.typed_tree.specs.Trees.{trees_in}
-use Rattle.typed_tree.proofs.Paired.{half-evens, keys-of-pairs, below-evens}
+use Rattle.typed_tree.proofs.Paired.{half-evens, keys-of-pairs, below-evens, turned-pairs, turned-below, turned-even, inside-turns}
 use Rattle.typed_tree.proofs.entries.entries_in_order.Goals as goal
 
 pub places_in_order-requires-clause-there : goal.places_in_order-requires-clause-there
@@ -28,21 +29,37 @@ returns-in_err-places-clause-repeated c =
     let p = err_from_is_err_and c.from_residual-in_err-places.result c.from_residual-in_err-places.ensures.1 in
     rw (p.1, p.2) (subst (λ (ts : List Value). IsFaultOf ts c.in_err-places.field-0.0) keys c.in_err-places.ensures.repeated)
 
-pub add_pairs-requires-clause-inside : goal.add_pairs-requires-clause-inside
-add_pairs-requires-clause-inside c =
-    let ks = c.args.nodes.now in
-    let many = ap (λ zs. length zs) (c.deref.ensures.value ∙ c.in_ok-keys.ensures) in
-    let inside : All (λ p. 2 * p + 1 < length ks) c.in_ok-places.places.items = λ k d lt.
-    omega (arith, c.in_ok-places.ensures.ordered.inside k d lt, many, half-evens ks, length-map c.deref.result.now (λ k. slice_index_or (values_of c.args.pool.now) k Absent)) in
-    subst (λ (ps : List ℕ). All (λ p. 2 * p + 1 < length ks) ps) (sym c.deref-2.ensures.value) inside
-
-pub returns-clause-ordered : goal.returns-clause-ordered
-returns-clause-ordered c =
-    let us = pairs (trees_in (values_of c.args.pool.now) c.args.nodes.now) in
-    let keys = ap (trees_in (values_of c.args.pool.now)) (c.deref.ensures.value ∙ c.in_ok-keys.ensures) ∙ keys-of-pairs (values_of c.args.pool.now) c.args.nodes.now in
-    c.in_ok-entries.ensures.picked ∙ ap (picked us) c.deref-2.ensures.value ∙ c.in_ok-places.ensures.ordered.in_turn us (sym keys)
+pub nodes_of_pairs-requires : goal.nodes_of_pairs-requires
+nodes_of_pairs-requires c = inside-turns (values_of c.args.pool.now) c.args.nodes.now _ c.deref.result.now _ (c.deref.ensures.value ∙ c.in_ok-keys.ensures) c.deref-2.ensures.value c.in_ok-places.ensures.ordered.inside
 
 pub returns-clause-repeated : goal.returns-clause-repeated
 returns-clause-repeated c =
     let keys = ap (trees_in (values_of c.args.pool.now)) (c.deref.ensures.value ∙ c.in_ok-keys.ensures) ∙ keys-of-pairs (values_of c.args.pool.now) c.args.nodes.now in
     subst (λ (ts : List Value). AllPairs (λ k l. k ≢ l) ts) keys c.in_ok-places.ensures.repeated
+
+pub returns-clause-ordered : goal.returns-clause-ordered
+returns-clause-ordered c =
+    let vs = values_of c.args.pool.now in
+    let ks = c.args.nodes.now in
+    let ps = c.in_ok-places.places.items in
+    let inside = inside-turns vs ks ps c.deref.result.now ps (c.deref.ensures.value ∙ c.in_ok-keys.ensures) refl c.in_ok-places.ensures.ordered.inside in
+    let keys = ap (trees_in vs) (c.deref.ensures.value ∙ c.in_ok-keys.ensures) ∙ keys-of-pairs vs ks in
+    ap (λ zs. pairs (trees_in vs zs)) (c.in_ok-by_turns.ensures ∙ ap (turned ks) c.deref-2.ensures.value)
+    ∙ turned-pairs vs ks ps (recursion_from_All (λ p. 2 * p + 1 < length ks) ps inside)
+    ∙ c.in_ok-places.ensures.ordered.in_turn (pairs (trees_in vs ks)) (sym keys)
+
+pub returns-clause-even : goal.returns-clause-even
+returns-clause-even c =
+    let vs = values_of c.args.pool.now in
+    let ks = c.args.nodes.now in
+    let e = c.in_ok-by_turns.ensures in
+    ap (λ zs. length zs) e ∙ turned-even vs ks c.deref-2.result.now ∙ ap (λ zs. 2 * length (pairs (trees_in vs zs))) (sym e)
+
+pub returns-clause-still : goal.returns-clause-still
+returns-clause-still c =
+    let vs = values_of c.args.pool.now in
+    let ks = c.args.nodes.now in
+    let n = length c.args.pool.now.nodes.items in
+    let ps = c.in_ok-places.places.items in
+    let inside = inside-turns vs ks ps c.deref.result.now ps (c.deref.ensures.value ∙ c.in_ok-keys.ensures) refl c.in_ok-places.ensures.ordered.inside in
+    ap (list_all (λ k. nat_lt k n)) (c.in_ok-by_turns.ensures ∙ ap (turned ks) c.deref-2.ensures.value) ∙ turned-below vs ks n ps (recursion_from_All (λ p. 2 * p + 1 < length ks) ps inside) c.requires.there

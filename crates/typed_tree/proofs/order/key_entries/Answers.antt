@@ -3,7 +3,7 @@ use Rattle.std.proofs.Common.{◌≡◌, ◌∙◌, ◌++◌, ◌∷◌, [], Lis
 use Rattle.std.specs.List.{enumerate_from}
 use Rattle.std.proofs.lemmas.List.{length-map, map_push, take_more}
 use Rattle.frozen_model.specs.Values.{Absent}
-use Rattle.key_order.specs.declared.repeats.Entry.{Entry}
+use Rattle.key_order.specs.declared.repeats.PlacedKey.{PlacedKey}
 use Rattle.key_order.specs.Keys.{value_of}
 use Rattle.key_order.specs.Entries.{keys, placed}
 use Rattle.key_order.proofs.Numbered.{numbered-push}
@@ -22,8 +22,8 @@ loop-node-preserved c =
     let pushed = c.in_ok-push.ensures.items in
     let key = c.key-key.ensures ∙ sym (tree-at vs ks i 0 (omega arith)) in
     record {
-      numbers = subst (λ (es : List Entry). placed es ≡ enumerate_from 0 (keys es)) (sym pushed) (numbered-push es _ c.loop-node.invariant.numbers (c.len-place.ensures ∙ c.loop-node.entries.ok.0));
+      numbers = subst (λ (es : List PlacedKey). placed es ≡ enumerate_from 0 (keys es)) (sym pushed) (numbered-push es _ c.loop-node.invariant.numbers (c.len-place.ensures ∙ c.loop-node.entries.ok.0));
       first =
-          ap keys pushed ∙ map_push (λ (e : Entry). value_of e.key) es _ ∙ ap (λ zs. zs ++ value_of c.key-key.result ∷ []) c.loop-node.invariant.first ∙ ap (λ v. take i ts ++ v ∷ []) key
+          ap keys pushed ∙ map_push (λ (e : PlacedKey). value_of e.key) es _ ∙ ap (λ zs. zs ++ value_of c.key-key.result ∷ []) c.loop-node.invariant.first ∙ ap (λ v. take i ts ++ v ∷ []) key
           ∙ sym (take_more ts i Absent (omega (arith, length-map ks (λ k. slice_index_or vs k Absent))));
     }

@@ -1,7 +1,7 @@
 -- Each node stands at the place of its entry.
 use Rattle.std.proofs.Common.{◌∙◌, ◌<◌, List, ap, sym, subst, length, nat_lt}
 use Rattle.std.specs.List.{All, list_all}
-use Rattle.key_order.specs.declared.repeats.Entry.{Entry}
+use Rattle.key_order.specs.declared.repeats.PlacedKey.{PlacedKey}
 use Rattle.typed_tree.specs.Pools.{values_of}
 use Rattle.typed_tree.specs.Trees.{trees_in}
 use Rattle.typed_tree.proofs.Keyed.{nodes-at, below-places, set-inside, set-in-order}
@@ -9,7 +9,7 @@ use Rattle.typed_tree.proofs.order.keys_in_order.Goals as goal
 
 pub nodes_at-requires : goal.nodes_at-requires
 nodes_at-requires c =
-    subst (λ (es : List Entry). All (λ e. e.place < length c.args.nodes.now) es) (sym c.deref.ensures.value)
+    subst (λ (es : List PlacedKey). All (λ e. e.place < length c.args.nodes.now) es) (sym c.deref.ensures.value)
     (set-inside (values_of c.args.pool.now) c.args.nodes.now c.in_ok-entries.entries.items c.requires.kind c.in_ok-entries.ensures.sorted)
 
 pub returns-clause-ordered : goal.returns-clause-ordered

@@ -1,56 +1,80 @@
--- The last trees, by twos and in the order of their keys, become the entries of one map.
-use Rattle.std.proofs.Common.{◌≡◌, ◌∙◌, List, nat_lt, map, ◌+◌, ◌-◌, ◌*◌, refl, ap, sym, subst, length, take, drop, slice_index_or, arith}
-use Rattle.std.specs.List.{list_all}
-use Rattle.std.proofs.lemmas.List.{length-map}
+-- The last keys and values become one map, as they stand where the keys rise, and else in their order.
+use Rattle.std.proofs.Common.{◌≡◌, ◌≢◌, ◌∙◌, ◌-◌, ◌*◌, List, refl, ap, sym, subst, length, vec_len, drop, map, slice_index_or, arith, rules}
+use Rattle.std.specs.List.{AllPairs}
+use Rattle.std.proofs.lemmas.List.{length-map, length-drop}
 use Rattle.std.proofs.lemmas.Result.{err_from_is_err_and}
+use Rattle.frozen_model.specs.Trees.{AMap}
 use Rattle.frozen_model.specs.Values.{Value, Items, Absent, key_of}
-use Rattle.key_order.specs.Keys.{AreOneKind}
+use Rattle.key_order.specs.Keys.{AreOneKind, AreRising}
 use Rattle.key_order.specs.InOrder.{row, in_order}
+use Rattle.typed_tree.specs.declared.joined.Joined.TheVariants as j
 use Rattle.typed_tree.specs.Parts.{pairs}
-use Rattle.typed_tree.specs.Spots.{item_link, pick}
-use Rattle.typed_tree.specs.Pools.{store_of, values_of}
+use Rattle.typed_tree.specs.Pools.{values_of}
 use Rattle.typed_tree.specs.Tables.{IsFaultOf}
-use Rattle.typed_tree.specs.Trees.{trees_in, trees, but_last}
-use Rattle.typed_tree.proofs.Stack.{values-stay, put-on, pick-items, items-fit, below-cut-is, trees-front}
+use Rattle.typed_tree.specs.Trees.{trees_in, trees, last}
+use Rattle.typed_tree.proofs.Builders.{stack-trees, stack-below, joins-last, joins-nodes, base-at}
+use Rattle.key_order.proofs.Rising.{rising_keys_differ}
+use Rattle.typed_tree.proofs.Keyed.{rising-stay, length-in_order}
+use Rattle.typed_tree.proofs.Paired.{length-pairs}
 use Rattle.typed_tree.proofs.builder.Builder.map.Goals as goal
 
-pub add_entries-requires-clause-kind : goal.add_entries-requires-clause-kind
-add_entries-requires-clause-kind c =
-    let base : c.len.result - 2 * c.args.n ≡ length (trees c.args.self.now) - 2 * c.args.n = omega (arith, c.len.ensures, c.args.self.now.stack.ok.0, length-map c.args.self.now.stack.items (λ k. slice_index_or (values_of c.args.self.now.pool) k Absent)) in
-    subst (λ (ts : List Value). AreOneKind (map key_of (pairs ts))) (sym (ap (λ n. drop n (trees c.args.self.now)) base)) c.requires.kind
+pub entries_rise-requires-clause-there : goal.entries_rise-requires-clause-there
+entries_rise-requires-clause-there c = stack-below c.args.self.now _ c.deref.result.now c.deref.ensures.value
+
+pub entries_rise-requires-clause-kind : goal.entries_rise-requires-clause-kind
+entries_rise-requires-clause-kind c =
+    let a = c.args.self.now in
+    subst (λ (ts : List Value). AreOneKind (map key_of (pairs ts))) (sym (stack-trees a _ (2 * c.args.n) c.deref.result.now c.deref.ensures.value (base-at a c.len.result (2 * c.args.n) c.len.ensures))) c.requires.kind
+
+pub returns-then-entries_rise-clause-joined : goal.returns-then-entries_rise-clause-joined
+returns-then-entries_rise-clause-joined c =
+    let a = c.args.self.now in
+    let e = c.in_ok-make_room.ensures in
+    let at = base-at a c.len.result (2 * c.args.n) c.len.ensures in
+    let keys = stack-trees a _ (2 * c.args.n) c.deref.result.now c.deref.ensures.value at in
+    let up = subst (λ (ts : List Value). AreRising (map key_of (pairs ts))) keys (c.entries_rise.ensures (search rules)) in
+    joins-last a c.make_room.new.self c.join.new.self (2 * c.args.n) _ j.Map _ c.join.ensures e.same.0 e.same.1 (ap (λ zs. length zs) e.stack) at c.requires.there
+    (ap (λ ps. Items AMap (row ps)) (rising-stay _ c.requires.kind up)) e.room
+
+pub returns-then-entries_rise-clause-repeated : goal.returns-then-entries_rise-clause-repeated
+returns-then-entries_rise-clause-repeated c =
+    let a = c.args.self.now in
+    let keys = stack-trees a _ (2 * c.args.n) c.deref.result.now c.deref.ensures.value (base-at a c.len.result (2 * c.args.n) c.len.ensures) in
+    rising_keys_differ _ (subst (λ (ts : List Value). AreRising (map key_of (pairs ts))) keys (c.entries_rise.ensures (search rules)))
+
+pub entries_in_order-requires-clause-there : goal.entries_in_order-requires-clause-there
+entries_in_order-requires-clause-there c = stack-below c.args.self.now _ c.deref-2.result.now c.deref-2.ensures.value
+
+pub entries_in_order-requires-clause-kind : goal.entries_in_order-requires-clause-kind
+entries_in_order-requires-clause-kind c =
+    let a = c.args.self.now in
+    subst (λ (ts : List Value). AreOneKind (map key_of (pairs ts))) (sym (stack-trees a _ (2 * c.args.n) c.deref-2.result.now c.deref-2.ensures.value (base-at a c.len.result (2 * c.args.n) c.len.ensures))) c.requires.kind
 
 pub returns-in_err-nodes-clause-repeated : goal.returns-in_err-nodes-clause-repeated
 returns-in_err-nodes-clause-repeated c =
-    let base : c.len.result - 2 * c.args.n ≡ length (trees c.args.self.now) - 2 * c.args.n = omega (arith, c.len.ensures, c.args.self.now.stack.ok.0, length-map c.args.self.now.stack.items (λ k. slice_index_or (values_of c.args.self.now.pool) k Absent)) in
-    let p = err_from_is_err_and c.from_residual.result c.from_residual.ensures.1 in
-    rw (p.1, p.2) (subst (λ (ts : List Value). IsFaultOf (map key_of (pairs ts)) c.in_err-nodes.field-0.0) (ap (λ n. drop n (trees c.args.self.now)) base) c.in_err-nodes.ensures.repeated)
+    let a = c.args.self.now in
+    let keys = stack-trees a _ (2 * c.args.n) c.deref-2.result.now c.deref-2.ensures.value (base-at a c.len.result (2 * c.args.n) c.len.ensures) in
+    let p = err_from_is_err_and c.from_residual-in_err-nodes.result c.from_residual-in_err-nodes.ensures.1 in
+    rw (p.1, p.2) (subst (λ (ts : List Value). IsFaultOf (map key_of (pairs ts)) c.in_err-nodes.field-0.0) keys c.in_err-nodes.ensures.repeated)
 
-pub invariant_of-self-2 : goal.invariant_of-self-2
-invariant_of-self-2 c =
-    let d = c.reserve.new.self in
-    record { placed = below-cut-is d.pool.nodes.items _ d.stack.items _ (c.len.result - 2 * c.args.n) d.placed (ap (λ v. v.items) c.add_items.ensures.nodes) c.truncate.ensures.items }
+pub join_nodes-requires-clause-as_many : goal.join_nodes-requires-clause-as_many
+join_nodes-requires-clause-as_many c =
+    let a = c.args.self.now in
+    let vs = values_of a.pool in
+    let keys = stack-trees a _ (2 * c.args.n) c.deref-2.result.now c.deref-2.ensures.value (base-at a c.len.result (2 * c.args.n) c.len.ensures) in
+    let ordered = ap (λ ts. length ts) (c.in_ok-nodes.ensures.ordered ∙ ap (λ ts. in_order (pairs ts)) keys) in
+    omega (arith, c.len.ensures, a.stack.ok.0, c.requires.there, ap (λ zs. length zs) c.deref-3.ensures.value, c.in_ok-nodes.ensures.even, ordered, length-in_order (pairs (last (2 * c.args.n) (trees a))), length-pairs (last (2 * c.args.n) (trees a)), length-drop (length (trees a) - 2 * c.args.n) (trees a), length-map a.stack.items (λ k. slice_index_or vs k Absent))
 
-pub put-requires-clause-fit : goal.put-requires-clause-fit
-put-requires-clause-fit c =
-    let ks = c.in_ok-nodes.nodes.items in
-    items-fit (store_of c.add_items.new.self) _ c.in_ok-run.run' ks c.in_ok-run.ensures.inside (c.in_ok-run.ensures.added ∙ ap (map item_link) c.deref.ensures.value)
-    (ap (λ v. list_all (λ k. nat_lt k (length v.items)) ks) c.add_items.ensures.nodes ∙ ap (λ xs. list_all (λ k. nat_lt k (length xs)) ks) c.reserve.ensures.nodes ∙ c.in_ok-nodes.ensures.still)
+pub returns-clause-repeated : goal.returns-clause-repeated
+returns-clause-repeated c =
+    let a = c.args.self.now in
+    let keys = stack-trees a _ (2 * c.args.n) c.deref-2.result.now c.deref-2.ensures.value (base-at a c.len.result (2 * c.args.n) c.len.ensures) in
+    subst (λ (ts : List Value). AllPairs (λ k l. k ≢ l) (map key_of (pairs ts))) keys c.in_ok-nodes.ensures.repeated
 
 pub returns-clause-joined : goal.returns-clause-joined
 returns-clause-joined c =
     let a = c.args.self.now in
-    let b = c.add_entries.new.self in
-    let d = c.reserve.new.self in
-    let q = c.add_items.new.self in
-    let ks = c.in_ok-nodes.nodes.items in
-    let from = c.len.result - 2 * c.args.n in
-    let base : c.len.result - 2 * c.args.n ≡ length (trees c.args.self.now) - 2 * c.args.n = omega (arith, c.len.ensures, c.args.self.now.stack.ok.0, length-map c.args.self.now.stack.items (λ k. slice_index_or (values_of c.args.self.now.pool) k Absent)) in
-    let nodes = ap (λ v. v.items) c.add_items.ensures.nodes in
-    let same = values-stay (store_of b.pool) (store_of d.pool) _ b.pool.nodes.items d.pool.nodes.items _ b.pool.ordered c.reserve.ensures.store c.reserve.ensures.nodes c.in_ok-run.ensures.grows nodes in
-    let items = pick-items (values_of q) ks ∙ ap (λ (vs : List Value). row (trees_in vs ks)) same ∙ ap row (c.in_ok-nodes.ensures.ordered ∙ ap (λ ts. in_order (pairs ts)) (ap (λ n. drop n (trees c.args.self.now)) base)) in
-    let front = c.truncate.ensures.items ∙ ap (take from) c.reserve.ensures.stack in
-    let many = length-map b.stack.items (λ k. slice_index_or (values_of b.pool) k Absent) in
-    let place : from + 2 * c.args.n ≡ length b.stack.items = omega (arith, c.len.ensures, a.stack.ok.0, ap (λ zs. length zs) c.in_ok-nodes.ensures.stack, ap (λ zs. length zs) c.in_ok-nodes.ensures.trees, c.requires.there, many) in
-    put-on _ _ _ _ _ c.put.ensures
-    (ap (λ ls. Items (pick (values_of q) ls)) (c.in_ok-run.ensures.added ∙ ap (map item_link) c.deref.ensures.value) ∙ ap Items items)
-    (trees-front _ _ same b.stack.items _ (drop from b.stack.items) from (2 * c.args.n) front refl place ∙ ap (but_last (2 * c.args.n)) c.in_ok-nodes.ensures.trees)
+    let at = base-at a c.len.result (2 * c.args.n) c.len.ensures in
+    let keys = stack-trees a _ (2 * c.args.n) c.deref-2.result.now c.deref-2.ensures.value at in
+    joins-nodes a _ c.join_nodes.new.self (2 * c.args.n) _ j.Map _ _ c.in_ok-join_nodes.ensures.joined refl refl refl at c.requires.there
+    (ap (λ zs. Items AMap (row (pairs (trees_in (values_of a.pool) zs)))) c.deref-3.ensures.value ∙ ap (λ ps. Items AMap (row ps)) (c.in_ok-nodes.ensures.ordered ∙ ap (λ ts. in_order (pairs ts)) keys))

@@ -1,35 +1,65 @@
-use Rattle.std.proofs.Common.{◌≡◌, ◌∙◌, ◌+◌, ◌-◌, ap, length, take, drop, slice_index_or, arith}
+-- The last trees become the fields of one.
+use Rattle.std.proofs.Common.{◌≡◌, ◌∙◌, ◌+◌, ◌-◌, List, ap, refl, drop, length, vec_len, vec_capacity, slice_index_or, arith}
 use Rattle.std.proofs.lemmas.List.{length-map}
-use Rattle.frozen_model.specs.Values.{Absent}
+use Rattle.frozen_model.specs.Values.{Value, Absent}
 use Rattle.typed_tree.specs.Fields.{natural, record_of}
 use Rattle.typed_tree.specs.Pools.{store_of, values_of}
-use Rattle.typed_tree.proofs.Stack.{values-stay, put-on, below-cut-is, below-rest-is, rest-is, trees-front, trees-back}
-use Rattle.typed_tree.proofs.Structs.{pick-fields, fields-fit}
+use Rattle.typed_tree.specs.Rooms.{room_of}
+use Rattle.typed_tree.specs.Trees.{trees_in, trees, last, but_last}
+use Rattle.typed_tree.proofs.Builders.{values-kept, cut-trees, cut-kinds, joins-after, trees-from, left-from}
+use Rattle.typed_tree.proofs.Stack.{below-cut-is, below-rest-is, rest-is, length-rest}
+use Rattle.typed_tree.proofs.Structs.{pick-fields, fields-fit, fields-differ}
 use Rattle.typed_tree.proofs.builder.Builder.structure.Goals as goal
 
-pub invariant_of-self-2 : goal.invariant_of-self-2
-invariant_of-self-2 c =
-    let d = c.reserve.new.self in
-    record { placed = below-cut-is d.pool.nodes.items _ d.stack.items _ (c.len.result - length c.args.ids.now) d.placed (ap (λ v. v.items) c.add_links.ensures.nodes) c.truncate.ensures.items }
+pub invariant_of-self : goal.invariant_of-self
+invariant_of-self c =
+    let b = c.make_room.new.self in
+    let p = c.add_fields-run.ensures in
+    let q = c.truncate.ensures in
+    let base = c.len.result - length c.args.ids.now in
+    let nodes = ap (λ v. vec_len v) p.nodes in
+    let capacity = ap (λ v. vec_capacity v) p.nodes in
+    let taken = ap (λ s. s.taken) p.bytes in
+    let size = ap (λ s. length s.bytes) p.bytes in
+    let many = length-rest base c.deref.result.now in
+    let all = ap (λ zs. length zs) c.deref.ensures.value in
+    record {
+      placed = below-cut-is b.pool.nodes.items _ b.stack.items _ base b.placed (ap (λ v. v.items) p.nodes) q.items;
+      linked = omega (arith, b.linked, p.len, many, all, nodes, q.len, c.len.ensures, b.stack.ok.0);
+      few = omega (arith, b.few, nodes);
+      few_bytes = b.few_bytes;
+      for_nodes = omega (arith, b.for_nodes, nodes, capacity);
+      for_links = omega (arith, b.for_links, nodes, p.capacity);
+      for_numbers = omega (arith, b.for_numbers, q.len, q.capacity);
+      for_bytes = omega (arith, b.for_bytes, taken, size);
+    }
 
 pub put-requires-clause-fit : goal.put-requires-clause-fit
 put-requires-clause-fit c =
-    let d = c.reserve.new.self in
+    let b = c.make_room.new.self in
     let base = c.len.result - length c.args.ids.now in
-    fields-fit (store_of c.add_links.new.self) _ c.in_ok-run.run' c.args.ids.now _ c.in_ok-run.ensures.inside (c.in_ok-run.ensures.added ∙ c.deref-2.ensures.value ∙ c.in_ok-fields.ensures)
-    (below-rest-is d.pool.nodes.items _ d.stack.items _ base d.placed (ap (λ v. v.items) c.add_links.ensures.nodes) (rest-is base c.deref.result.now ∙ ap (drop base) c.deref.ensures.value))
+    let p = c.add_fields-run.ensures in
+    let low = below-rest-is b.pool.nodes.items c.add_fields-run.new.self.nodes.items b.stack.items _ base b.placed (ap (λ v. v.items) p.nodes) (rest-is base c.deref.result.now ∙ ap (drop base) c.deref.ensures.value) in
+    fields-fit (store_of c.add_fields-run.new.self) _ c.add_fields-run.result c.args.ids.now _ p.inside p.added low (fields-differ c.args.ids.now _ c.requires.natural c.requires.differ)
 
 pub returns-clause-joined : goal.returns-clause-joined
 returns-clause-joined c =
-    let b = c.args.self.now in
-    let d = c.reserve.new.self in
-    let q = c.add_links.new.self in
+    let a = c.args.self.now in
+    let b = c.make_room.new.self in
+    let e = c.in_ok-make_room.ensures in
+    let q = c.add_fields-run.new.self in
+    let p = c.add_fields-run.ensures in
     let n = length c.args.ids.now in
     let base = c.len.result - n in
-    let same = values-stay (store_of b.pool) (store_of d.pool) _ b.pool.nodes.items d.pool.nodes.items _ b.pool.ordered c.reserve.ensures.store c.reserve.ensures.nodes c.in_ok-run.ensures.grows (ap (λ v. v.items) c.add_links.ensures.nodes) in
-    let front = c.truncate.ensures.items ∙ ap (take base) c.reserve.ensures.stack in
-    let back = rest-is base c.deref.result.now ∙ ap (drop base) (c.deref.ensures.value ∙ c.reserve.ensures.stack) in
-    let place : base + n ≡ length b.stack.items = omega (arith, c.len.ensures, d.stack.ok.0, ap (λ zs. length zs) c.reserve.ensures.stack, c.requires.there, length-map b.stack.items (λ k. slice_index_or (values_of b.pool) k Absent)) in
-    put-on _ _ _ _ _ c.put.ensures
-    (pick-fields (values_of q) c.args.ids.now _ _ (c.in_ok-run.ensures.added ∙ c.deref-2.ensures.value ∙ c.in_ok-fields.ensures) ∙ ap (record_of (natural c.args.ids.now)) (trees-back _ _ same b.stack.items _ _ base n front back place))
-    (trees-front _ _ same b.stack.items _ _ base n front back place)
+    let nodes = ap (λ v. v.items) p.nodes in
+    let stack = ap (λ zs. length zs) e.stack in
+    let many = length-map a.stack.items (λ k. slice_index_or (values_of a.pool) k Absent) in
+    let place : base + n ≡ length b.stack.items = omega (arith, c.len.ensures, b.stack.ok.0, stack, many, c.requires.there) in
+    let here : base ≡ length (trees a) - n = omega (arith, c.len.ensures, b.stack.ok.0, stack, many) in
+    let kept = values-kept b q p.grows nodes base n _ c.truncate.ensures.items place in
+    joins-after a _ c.put.new.self n _ _ _ _ _ (room_of 1 0) c.put.ensures.pushed
+    (cut-trees b q p.grows nodes base n _ c.truncate.ensures.items place ∙ ap (but_last n) e.same.0)
+    (cut-kinds b q p.grows nodes base n _ c.truncate.ensures.items place ∙ ap (but_last n) e.same.1)
+    (pick-fields (values_of q) c.args.ids.now _ _ p.added
+    ∙ ap (record_of (natural c.args.ids.now)) (trees-from q b.stack.items base c.deref.result.now c.deref.ensures.value ∙ ap (λ (vs : List Value). drop base (trees_in vs b.stack.items)) kept ∙ ap (drop base) e.same.0 ∙ ap (λ i. drop i (trees a)) here))
+    refl (left-from a.room b.room (room_of 1 0) e.room)

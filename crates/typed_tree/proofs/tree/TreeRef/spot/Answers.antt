@@ -6,8 +6,8 @@ use Rattle.typed_tree.specs.Pools.{store_of, values_of}
 use Rattle.typed_tree.proofs.Grow.{known-at, fits-there}
 use Rattle.typed_tree.proofs.tree.TreeRef.spot.Goals as goal
 
-pub returns-clause-told : goal.returns-clause-told
-returns-clause-told c =
+pub returns-clause-value : goal.returns-clause-value
+returns-clause-value c =
     let r = c.args.self in
     let p = r.pool.now in
     let e : r.node ≡ 0 + r.node = omega arith in

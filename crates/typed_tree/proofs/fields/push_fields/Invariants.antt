@@ -1,0 +1,12 @@
+-- The links to the first nodes are there.
+use Rattle.std.proofs.Common.{◌≡◌, ◌+◌, ◌++◌, map, take, vec_len, vec_capacity}
+use Rattle.std.specs.Prelude.{zip}
+use Rattle.typed_tree.specs.Fields.{field_link}
+use Rattle.typed_tree.proofs.fields.push_fields.Given as goal
+
+abbrev pub invariant-loop-i : goal.invariant-loop-i
+invariant-loop-i l = record {
+  added : l.links.items ≡ l.initial.links.items ++ map field_link (take l.i (zip l.ids l.nodes));
+  len : vec_len l.links ≡ vec_len l.initial.links + l.i;
+  capacity : vec_capacity l.links ≡ vec_capacity l.initial.links;
+}

@@ -1,0 +1,11 @@
+pub mod Listing
+pub mod Nodes
+pub mod Reading
+pub mod Segments
+pub mod Noting
+pub mod Basing
+pub mod Rest
+pub mod Given
+pub mod Groups
+pub mod Marking
+pub mod Shapes

@@ -1,0 +1,12 @@
+//! What is so of every layout, as functions whose contracts are the laws.
+
+ghost use Rattle.frozen_model.specs.Layouts.{IsDescribed};
+ghost use Rattle.layout_tree.specs.Nodes.{layout_of, settled_of};
+
+use crate::layouts::Layouts;
+
+/// A layout is one of its version within the limits, and so is the one that settling would make of it.
+pub fn layouts_are_described(_layouts: &Layouts)
+    ensures bits { ∥ IsDescribed (layout_of _layouts.now) ∥₁ }
+    ensures noted { ∥ IsDescribed (settled_of _layouts.now) ∥₁ }
+{}

@@ -1,26 +1,18 @@
--- From what the answer is and what is done with it follow the clauses of a run.
-use Rattle.std.proofs.Common.{◌≡◌, ◌⊎◌, ◌≤◌, ℕ, List, [], None, Some, Option, IfSome, Result, Ok, Err, IsErrAnd, refl, inl, inr, arith, ◌∙◌, sym}
+-- From what the answer is and what is done with it follows what a run does.
+use Rattle.std.proofs.Common.{◌≡◌, ◌⊎◌, ◌≤◌, ℕ, List, [], None, Some, Option, IfSome, Result, Ok, Err, refl, inl, inr, arith, ◌∙◌, sym}
+use Rattle.fz_base.specs.Counts.{MovesOnlyAt}
 use Rattle.fz_base.specs.Files.{Held}
 use Rattle.frozen_cli.specs.declared.refusal.Refusal.{Refusal}
 use Rattle.frozen_cli.specs.declared.refusal.Refusal.TheVariants.{Usage, Missing, Unreadable, TooLarge, BadDefinition, NotYetLine, NotYetByte, NoField}
-use Rattle.frozen_cli.specs.declared.refusal.Stop.{Stop}
-use Rattle.frozen_cli.specs.declared.refusal.Stop.TheVariants.{Refused, NoMemory}
-use Rattle.frozen_cli.specs.Places.{Gives, GivesHeld}
-use Rattle.frozen_cli.specs.Refusal.{status_of, line_of, IsRefused, IsMissing, IsUnreadable}
-use Rattle.frozen_cli.specs.Reply.{Answers}
-use Rattle.frozen_cli.specs.Run.{Sent, Got, HasFailed, Replies, FileMissing, FileUnreadable, OutFails, ErrFails, Delivers}
+use Rattle.frozen_cli.specs.declared.refusal.Failure.{Failure}
+use Rattle.frozen_cli.specs.declared.refusal.Failure.TheVariants.{Refused, NoMemory}
+use Rattle.frozen_cli.specs.Stages.{HeldStageGives}
+use Rattle.frozen_cli.specs.Refusal.{status_of, line_of, IsMissing, IsUnreadable}
+use Rattle.frozen_cli.specs.Reply.{CommandGives}
+use Rattle.frozen_cli.specs.Changes.{Seen, HasMissed, HasFaulted, Sent, Takes, ReadsFiles}
+use Rattle.frozen_cli.specs.Run.{FileMissing, FileUnreadable, Runs, Delivers}
 
--- only an unreadable file has no reply, and a low status is another refusal's
-low_is_reply : (r : Refusal) → status_of r ≤ 3 → IsUnreadable r → ⊥
-low_is_reply Usage le u = u
-low_is_reply (Missing role) le u = u
-low_is_reply (Unreadable role) le u = omega arith
-low_is_reply (TooLarge role) le u = u
-low_is_reply (BadDefinition fault) le u = u
-low_is_reply (NotYetLine line) le u = u
-low_is_reply (NotYetByte byte) le u = u
-low_is_reply (NoField byte) le u = u
-
+-- a status is at most 4
 status_small : (r : Refusal) → status_of r ≤ 4
 status_small Usage = omega arith
 status_small (Missing role) = omega arith
@@ -31,67 +23,151 @@ status_small (NotYetLine line) = omega arith
 status_small (NotYetByte byte) = omega arith
 status_small (NoField byte) = omega arith
 
+-- a file that is unreadable has status 4
+unreadable_status : (r : Refusal) → IsUnreadable r → status_of r ≡ 4
+unreadable_status Usage u = absurd u
+unreadable_status (Missing role) u = absurd u
+unreadable_status (Unreadable role) u = refl
+unreadable_status (TooLarge role) u = absurd u
+unreadable_status (BadDefinition fault) u = absurd u
+unreadable_status (NotYetLine line) u = absurd u
+unreadable_status (NotYetByte byte) u = absurd u
+unreadable_status (NoField byte) u = absurd u
+
+-- a file that is missing has status 4
+missing_status : (r : Refusal) → IsMissing r → status_of r ≡ 4
+missing_status Usage u = absurd u
+missing_status (Missing role) u = refl
+missing_status (Unreadable role) u = absurd u
+missing_status (TooLarge role) u = absurd u
+missing_status (BadDefinition fault) u = absurd u
+missing_status (NotYetLine line) u = absurd u
+missing_status (NotYetByte byte) u = absurd u
+missing_status (NoField byte) u = absurd u
+
 -- what holds of each map that may be told holds where it is told
-pub where_told : {P Q : Held → Type 0} → ((h : Held) → P h → Q h) → (held : Option Held) → IfSome held P → IfSome held Q
+where_told : {P Q : Held → Type 0} → ((h : Held) → P h → Q h) → (held : Option Held) → IfSome held P → IfSome held Q
 where_told f None p = tt
 where_told f (Some h) p = f h p
 
-module _ {T : Type 0} (view : T → List ℕ) (words : List (List ℕ)) (status : ℕ) (out err : Sent) where
-  replies_at : (h : Held) (answer : Result T Stop) → Gives view (Answers words h) answer → Delivers view answer status out err → status ≤ 3 → Replies words h status out err
-  replies_at h (Ok t) g (inl d) le = (view t, [], inl (d.0, refl, g), d.1, d.2)
-  replies_at h (Ok t) g (inr d) le = absurd (omega (arith, d.0))
-  replies_at h (Err (Refused r)) g (o, inl d) le = ([], line_of r, inr (r, low_is_reply r (omega (arith, d.0)), d.0, refl, refl, g), o, d.1)
-  replies_at h (Err (Refused r)) g (o, inr (inl d)) le = absurd (omega (arith, d.0))
-  replies_at h (Err (Refused r)) g (o, inr (inr d)) le = absurd (omega (arith, d.0))
-  replies_at h (Err NoMemory) g d le = absurd (omega (arith, d.0))
+-- a count that moves at nothing moves at no other thing
+never : {before now : ℕ} {P : Type 0} → MovesOnlyAt before now ⊥ → MovesOnlyAt before now P
+never (inl x) = absurd x
+never (inr same) = inr same
 
-  pub reply : (held : Option Held) (answer : Result T Stop) → GivesHeld held view (Answers words) answer → Delivers view answer status out err
-      → status ≤ 3 → IfSome held (λ h. Replies words h status out err)
-  reply held answer g d le = where_told (λ h p. replies_at h answer p d le) held g
+-- a count that moves only at one thing moves only at what comes of it
+moves_at : {before now : ℕ} {P Q : Type 0} → (P → Q) → MovesOnlyAt before now P → MovesOnlyAt before now Q
+moves_at f (inl p) = inl (f p)
+moves_at f (inr same) = inr same
 
-  missing_or_unreadable : (misses faults : Type 0) (held : Option Held) (r : Refusal) → GivesHeld {T = T} held view (Answers words) (Err (Refused r))
-      → (IsMissing r → misses) → (IsUnreadable r → faults) → status_of r ≡ 4 → Got err (line_of r)
-      → FileMissing words held misses err ⊎ FileUnreadable words held faults err
-  missing_or_unreadable misses faults held Usage g m u s e = absurd (omega (arith, s))
-  missing_or_unreadable misses faults held (Missing role) g m u s e = inl (role, m tt, e, where_told (λ h p. inr (Missing role, λ x. x, refl, refl, refl, p)) held g)
-  missing_or_unreadable misses faults held (Unreadable role) g m u s e = inr (role, u tt, e, g)
-  missing_or_unreadable misses faults held (TooLarge role) g m u s e = absurd (omega (arith, s))
-  missing_or_unreadable misses faults held (BadDefinition fault) g m u s e = absurd (omega (arith, s))
-  missing_or_unreadable misses faults held (NotYetLine line) g m u s e = absurd (omega (arith, s))
-  missing_or_unreadable misses faults held (NotYetByte byte) g m u s e = absurd (omega (arith, s))
-  missing_or_unreadable misses faults held (NoField byte) g m u s e = absurd (omega (arith, s))
+module _ {T : Type 0} (view : T → List ℕ) (words : List (List ℕ)) (files : Seen) (out err : Sent) (status : ℕ) where
+  -- a refusal at status 4 is of a file
+  missing_or_unreadable : (r : Refusal) → HeldStageGives {T = T} files.held view (CommandGives words) (Err (Refused r))
+      → (IsMissing r → HasMissed files) → (IsUnreadable r → HasFaulted files) → status_of r ≡ 4 → Takes err (line_of r)
+      → FileMissing words files err ⊎ FileUnreadable words files err
+  missing_or_unreadable Usage g m u s e = absurd (omega (arith, s))
+  missing_or_unreadable (Missing role) g m u s e =
+      inl (role, m tt, e, where_told (λ h p. inr (Missing role, λ x. x, refl, refl, refl, p)) files.held g)
+  missing_or_unreadable (Unreadable role) g m u s e = inr (role, u tt, e, g)
+  missing_or_unreadable (TooLarge role) g m u s e = absurd (omega (arith, s))
+  missing_or_unreadable (BadDefinition fault) g m u s e = absurd (omega (arith, s))
+  missing_or_unreadable (NotYetLine line) g m u s e = absurd (omega (arith, s))
+  missing_or_unreadable (NotYetByte byte) g m u s e = absurd (omega (arith, s))
+  missing_or_unreadable (NoField byte) g m u s e = absurd (omega (arith, s))
 
-  pub read_fault : (misses faults : Type 0) (held : Option Held) (answer : Result T Stop) → GivesHeld held view (Answers words) answer
-      → (IsErrAnd answer (IsRefused IsMissing) → misses) → (IsErrAnd answer (IsRefused IsUnreadable) → faults) → Delivers view answer status out err
-      → status ≡ 4 → Got out [] × (FileMissing words held misses err ⊎ FileUnreadable words held faults err)
-  read_fault misses faults held (Ok t) g m u (inl d) s = absurd (omega (arith, d.0))
-  read_fault misses faults held (Ok t) g m u (inr d) s = absurd (omega (arith, d.0))
-  read_fault misses faults held (Err (Refused r)) g m u (o, inl d) s = (o, missing_or_unreadable misses faults held r g m u (sym d.0 ∙ s) d.1)
-  read_fault misses faults held (Err (Refused r)) g m u (o, inr (inl d)) s = absurd (omega (arith, d.0))
-  read_fault misses faults held (Err (Refused r)) g m u (o, inr (inr d)) s = absurd (omega (arith, d.0))
-  read_fault misses faults held (Err NoMemory) g m u d s = absurd (omega (arith, d.0))
+  -- the output is written, or a write fails
+  written : (t : T) → HeldStageGives files.held view (CommandGives words) (Ok t) → ReadsFiles files (Ok t)
+      → Delivers view (Ok t) status out err → Runs words files out err status
+  written t g c (inl d) = record {
+    status_most = omega (arith, d.0);
+    kept = c.kept;
+    reply = λ le. where_told (λ h p. (view t, [], inl (d.0, refl, p), d.1, d.2)) files.held g;
+    read_fault = λ s. absurd (omega (arith, d.0, s));
+    write_fault = λ s. absurd (omega (arith, d.0, s));
+    memory = λ s. absurd (omega (arith, d.0, s));
+    missed = never c.unmissed;
+    unread = never c.unfailed;
+    out_failed = inr (d.1).unfailed;
+    err_failed = inr (d.2).unfailed;
+    complete = where_told (λ h p nf oo ee. inr (view t, [], inl (d.0, refl, p), d.1, d.2)) files.held g;
+  }
+  written t g c (inr d) = record {
+    status_most = omega (arith, d.0);
+    kept = c.kept;
+    reply = λ le. absurd (omega (arith, d.0, le));
+    read_fault = λ s. absurd (omega (arith, d.0, s));
+    write_fault = λ s. inl ((d.1).failed, where_told (λ h p. (view t, inl (refl, refl, p), d.1)) files.held g, d.2);
+    memory = λ s. absurd (omega (arith, d.0, s));
+    missed = never c.unmissed;
+    unread = never c.unfailed;
+    out_failed = inl d.0;
+    err_failed = inl d.0;
+    complete = where_told (λ h p nf oo ee. absurd (oo (d.1).failed)) files.held g;
+  }
 
-  pub write_fault : (faults : Type 0) (held : Option Held) (answer : Result T Stop) → GivesHeld held view (Answers words) answer
-      → (IsErrAnd answer (IsRefused IsUnreadable) → faults) → Delivers view answer status out err
-      → status ≡ 5 → OutFails words held out err ⊎ ErrFails words held faults out err
-  write_fault faults held (Ok t) g u (inl d) s = absurd (omega (arith, d.0))
-  write_fault faults held (Ok t) g u (inr d) s = inl (d.1, where_told (λ h p. (view t, inl (refl, refl, p), d.2)) held g, d.3)
-  write_fault faults held (Err (Refused r)) g u (o, inl d) s = absurd (omega (arith, d.0, status_small r))
-  write_fault faults held (Err (Refused r)) g u (o, inr (inl d)) s = inr (d.1, o, (r, u, g, d.2))
-  write_fault faults held (Err (Refused r)) g u (o, inr (inr d)) s = absurd (omega (arith, d.0))
-  write_fault faults held (Err NoMemory) g u d s = absurd (omega (arith, d.0))
+  -- the refusal's line is written, or its write fails, or there is no memory for it
+  refused : (r : Refusal) → HeldStageGives {T = T} files.held view (CommandGives words) (Err (Refused r))
+      → ReadsFiles {T = T} files (Err (Refused r)) → Delivers {T = T} view (Err (Refused r)) status out err
+      → Runs words files out err status
+  refused r g c (o, inl d) = record {
+    status_most = omega (arith, d.0, status_small r);
+    kept = c.kept;
+    reply = λ le. where_told (λ h p. ([], line_of r, inr (r, (λ u. absurd (omega (arith, d.0, unreadable_status r u))), d.0, refl, refl, p), o, d.1)) files.held g;
+    read_fault = λ s. (o, missing_or_unreadable r g c.missing.rose c.unreadable.rose (sym d.0 ∙ s) d.1);
+    write_fault = λ s. absurd (omega (arith, d.0, s, status_small r));
+    memory = λ s. absurd (omega (arith, d.0, s, status_small r));
+    missed = moves_at (λ m. (r, m, o, inl (d.0 ∙ missing_status r m, d.1))) c.unmissed;
+    unread = moves_at (λ u. (r, u, o, inl (d.0 ∙ unreadable_status r u, d.1))) c.unfailed;
+    out_failed = inr o.unfailed;
+    err_failed = inr (d.1).unfailed;
+    complete = where_told (λ h p nf oo ee. inr ([], line_of r, inr (r, (λ u. nf (c.unreadable.rose u)), d.0, refl, refl, p), o, d.1)) files.held g;
+  }
+  refused r g c (o, inr (inl d)) = record {
+    status_most = omega (arith, d.0);
+    kept = c.kept;
+    reply = λ le. absurd (omega (arith, d.0, le));
+    read_fault = λ s. absurd (omega (arith, d.0, s));
+    write_fault = λ s. inr (r, d.1, o, c.missing.rose, c.unreadable.rose, g);
+    memory = λ s. absurd (omega (arith, d.0, s));
+    missed = moves_at (λ m. (r, m, o, inr (inl d))) c.unmissed;
+    unread = moves_at (λ u. (r, u, o, inr (inl d))) c.unfailed;
+    out_failed = inr o.unfailed;
+    err_failed = inl d.0;
+    complete = where_told (λ h p nf oo ee. absurd (ee (d.1).failed)) files.held g;
+  }
+  refused r g c (o, inr (inr d)) = record {
+    status_most = omega (arith, d.0);
+    kept = c.kept;
+    reply = λ le. absurd (omega (arith, d.0, le));
+    read_fault = λ s. absurd (omega (arith, d.0, s));
+    write_fault = λ s. absurd (omega (arith, d.0, s));
+    memory = λ s. (o, d.1);
+    missed = moves_at (λ m. (r, m, o, inr (inr d))) c.unmissed;
+    unread = moves_at (λ u. (r, u, o, inr (inr d))) c.unfailed;
+    out_failed = inr o.unfailed;
+    err_failed = inr (d.1).unfailed;
+    complete = where_told (λ h p nf oo ee. inl d.0) files.held g;
+  }
 
-  complete_at : (faults : Type 0) (h : Held) (answer : Result T Stop) → Gives view (Answers words h) answer
-      → (IsErrAnd answer (IsRefused IsUnreadable) → faults) → Delivers view answer status out err
-      → (faults → ⊥) → (HasFailed out → ⊥) → (HasFailed err → ⊥) → (status ≡ 6) ⊎ Replies words h status out err
-  complete_at faults h (Ok t) g u (inl d) nf oo ee = inr (view t, [], inl (d.0, refl, g), d.1, d.2)
-  complete_at faults h (Ok t) g u (inr d) nf oo ee = absurd (oo d.1)
-  complete_at faults h (Err (Refused r)) g u (o, inl d) nf oo ee = inr ([], line_of r, inr (r, (λ x. nf (u x)), d.0, refl, refl, g), o, d.1)
-  complete_at faults h (Err (Refused r)) g u (o, inr (inl d)) nf oo ee = absurd (ee d.1)
-  complete_at faults h (Err (Refused r)) g u (o, inr (inr d)) nf oo ee = inl d.0
-  complete_at faults h (Err NoMemory) g u d nf oo ee = inl d.0
+  -- there is not enough memory, and nothing is written
+  wanting : HeldStageGives {T = T} files.held view (CommandGives words) (Err NoMemory) → ReadsFiles {T = T} files (Err NoMemory)
+      → Delivers {T = T} view (Err NoMemory) status out err → Runs words files out err status
+  wanting g c d = record {
+    status_most = omega (arith, d.0);
+    kept = c.kept;
+    reply = λ le. absurd (omega (arith, d.0, le));
+    read_fault = λ s. absurd (omega (arith, d.0, s));
+    write_fault = λ s. absurd (omega (arith, d.0, s));
+    memory = λ s. (d.1, d.2);
+    missed = never c.unmissed;
+    unread = never c.unfailed;
+    out_failed = inr (d.1).unfailed;
+    err_failed = inr (d.2).unfailed;
+    complete = where_told (λ h p nf oo ee. inl d.0) files.held g;
+  }
 
-  pub complete : (faults : Type 0) (held : Option Held) (answer : Result T Stop) → GivesHeld held view (Answers words) answer
-      → (IsErrAnd answer (IsRefused IsUnreadable) → faults) → Delivers view answer status out err
-      → IfSome held (λ h. (faults → ⊥) → (HasFailed out → ⊥) → (HasFailed err → ⊥) → (status ≡ 6) ⊎ Replies words h status out err)
-  complete faults held answer g u d = where_told (λ h p. complete_at faults h answer p u d) held g
+  pub runs : (answer : Result T Failure) → HeldStageGives files.held view (CommandGives words) answer → ReadsFiles files answer
+      → Delivers view answer status out err → Runs words files out err status
+  runs (Ok t) g c d = written t g c d
+  runs (Err (Refused r)) g c d = refused r g c d
+  runs (Err NoMemory) g c d = wanting g c d

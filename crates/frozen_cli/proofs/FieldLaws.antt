@@ -4,11 +4,11 @@ use Rattle.std.specs.Prelude.{find, slice_get}
 use Rattle.std.specs.List.{position_or_len}
 use Rattle.std.proofs.lemmas.List.Folds.{find_at}
 use Rattle.std.proofs.lemmas.Option.{slice_get_within}
-use Rattle.idl_profile.specs.Types.{Named, Field, root_of, fields_of}
+use Rattle.idl_profile.specs.Types.{Named, DefField, root_of, fields_of}
 use Rattle.frozen_cli.specs.Definition.{field_count, IsThinField, AreThinFields, HasThinRoot, IsIdOf}
 
 -- the field at a place has the form, and the id of its place
-thin_at : (id : ℕ) (fs : List Field) (i : ℕ) (f : Field) → AreThinFields id fs → slice_get fs i ≡ Some f → IsThinField (id + i) f
+thin_at : (id : ℕ) (fs : List DefField) (i : ℕ) (f : DefField) → AreThinFields id fs → slice_get fs i ≡ Some f → IsThinField (id + i) f
 thin_at id [] i f h e = absurd cc
 thin_at id (g ∷ fs) zero f h e =
     let same : g ≡ f = cc in
@@ -19,7 +19,7 @@ thin_at id (g ∷ fs) (suc i) f h e =
     subst (λ k. IsThinField k f) place (thin_at (suc id) fs i f h.1 e)
 
 -- the field that is found has the id of its place
-pub named_id : (d : List Named) (p : Field → Bool) (f : Field) → HasThinRoot d → Some f ≡ find p (fields_of (root_of d)) → IsIdOf (field_count d) f.id
+pub named_id : (d : List Named) (p : DefField → Bool) (f : DefField) → HasThinRoot d → Some f ≡ find p (fields_of (root_of d)) → IsIdOf (field_count d) f.id
 named_id d p f root e =
     let fs = fields_of (root_of d) in
     let i = position_or_len p fs in

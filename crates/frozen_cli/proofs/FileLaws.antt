@@ -57,16 +57,13 @@ length-schema ws h =
 
 -- ---- the layouts of the fields, byte by byte
 
-byte_number : (n : ℕ) → n < 128 → shortest n ≡ n ∷ []
-byte_number n h = shortest-last n h
-
 leaf_is : (number w : ℕ) → number ≤ 63 → w ≤ 63
     → leaf_layout number w ≡ 2 * number ∷ 21 ∷ 0 ∷ 20 ∷ 2 * w ∷ 27 ∷ 0 ∷ 24 ∷ 3 ∷ 105 ∷ 51 ∷ 50 ∷ 0 ∷ []
 leaf_is number w h l =
-    let e : shortest (2 * number) ≡ 2 * number ∷ [] = byte_number (2 * number) (omega arith) in
-    let f : shortest (2 * w) ≡ 2 * w ∷ [] = byte_number (2 * w) (omega arith) in
-    let z : shortest 0 ≡ 0 ∷ [] = byte_number 0 (omega arith) in
-    let t : shortest 3 ≡ 3 ∷ [] = byte_number 3 (omega arith) in
+    let e : shortest (2 * number) ≡ 2 * number ∷ [] = shortest-last (2 * number) (omega arith) in
+    let f : shortest (2 * w) ≡ 2 * w ∷ [] = shortest-last (2 * w) (omega arith) in
+    let z : shortest 0 ≡ 0 ∷ [] = shortest-last 0 (omega arith) in
+    let t : shortest 3 ≡ 3 ∷ [] = shortest-last 3 (omega arith) in
     rw (e, f, z, t) refl
 
 length-leaf : (number w : ℕ) → number ≤ 63 → w ≤ 63 → length (leaf_layout number w) ≡ 13
@@ -103,8 +100,8 @@ behind_of = i16_field (pos 0) ++ (i32_field (pos 1) ++ 0 ∷ [])
 
 length-behind : length behind_of ≡ 5
 length-behind =
-    let z : shortest 0 ≡ 0 ∷ [] = byte_number 0 (omega arith) in
-    let t : shortest 2 ≡ 2 ∷ [] = byte_number 2 (omega arith) in
+    let z : shortest 0 ≡ 0 ∷ [] = shortest-last 0 (omega arith) in
+    let t : shortest 2 ≡ 2 ∷ [] = shortest-last 2 (omega arith) in
     rw (z, t) refl
 
 schema_parts : (ws : List ℕ) → schema ws ≡ ahead_of ws ++ (leaf_layouts 1 ws ++ behind_of)

@@ -6,12 +6,13 @@ use Rattle.std.proofs.Math.Seq.{take-add}
 use Rattle.std.proofs.lemmas.List.{append_assoc, append-nil, length-append, take-append-drop, take_more, take_all, drop_all, length-replicate, get_or-replicate, get_or-drop, drop_at}
 use Rattle.frozen_model.specs.Bits.{bits, bits_of, complement, need_signed}
 use Rattle.frozen_model.proofs.Digits.{digits_below}
+use Rattle.frozen_model.proofs.Fields.{length_bits_of}
 use Rattle.frozen_cli.specs.Layout.{stride, IsLayout, Fits}
 use Rattle.frozen_cli.specs.File.{front, frozen, FileOf}
 use Rattle.frozen_cli.specs.Packing.{image, IsPacking}
 use Rattle.frozen_cli.specs.Opening.{IsContent, IsUnpacked}
 use Rattle.frozen_cli.proofs.FileLaws.{file_behind_front}
-use Rattle.frozen_cli.proofs.PackingLaws.{fits_length, length-bits_of, length-image, bytes_of_range}
+use Rattle.frozen_cli.proofs.PackingLaws.{fits_length, length-image, bytes_of_range}
 
 -- a number that needs at most 32 bits is an i32
 pub range_of_need : (x : ℤ) → need_signed x ≤ 32 → FitsSigned w32 x
@@ -69,7 +70,7 @@ unpacked_all ws xs i bit content past was e is =
       fits = fits;
       packing = record {
         padding = length (bits_of content) - stride ws;
-        short = omega (arith, length-bits_of content, is.len);
+        short = omega (arith, length_bits_of content, is.len);
         written =
             sym (take-append-drop (stride ws) (bits_of content))
             ∙ (ap (λ bs. bs ++ drop (stride ws) (bits_of content)) (ap (λ k. take k (bits_of content)) (sym end) ∙ (was.written ∙ ap (λ vs. image vs xs) whole)) ∙ ap (λ bs. image ws xs ++ bs) is.padding);
@@ -94,11 +95,11 @@ pub packing_is_content : (ws : List ℕ) (xs : List ℤ) (content : List ℕ) �
 packing_is_content ws xs content fits p =
     let front : length (image ws xs) ≡ stride ws = length-image ws xs (fits_length ws xs fits) in
     let whole : 8 * length content ≡ stride ws + p.padding =
-    sym (length-bits_of content) ∙ (ap length p.written ∙ (length-append (image ws xs) (replicate p.padding false) ∙ omega (arith, length-replicate p.padding false))) in
+    sym (length_bits_of content) ∙ (ap length p.written ∙ (length-append (image ws xs) (replicate p.padding false) ∙ omega (arith, length-replicate p.padding false))) in
     let short = p.short in
     record {
       len = omega arith;
-      padding = ap (drop (stride ws)) p.written ∙ (drop_at (image ws xs) (replicate p.padding false) (stride ws) front ∙ ap (λ k. replicate k false) (omega (arith, length-bits_of content)));
+      padding = ap (drop (stride ws)) p.written ∙ (drop_at (image ws xs) (replicate p.padding false) (stride ws) front ∙ ap (λ k. replicate k false) (omega (arith, length_bits_of content)));
     }
 
 -- ---- the layout that was found

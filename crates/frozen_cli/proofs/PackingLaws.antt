@@ -8,7 +8,7 @@ use Rattle.std.proofs.lemmas.Int.{ints, to_z-of_z}
 use Rattle.std.proofs.lemmas.List.{drop_more, drop_all, append_assoc, append-nil, take_at, drop_at, drop-drop, drop-replicate, length-append, length-take-le, take-append-drop, replicate-append-replicate, length-replicate, length-drop}
 use Rattle.frozen_model.specs.Bits.{bits, bits_of, complement, need_signed}
 use Rattle.frozen_model.proofs.Digits.{digits_below}
-use Rattle.frozen_model.proofs.Fields.{length-bits}
+use Rattle.frozen_model.proofs.Fields.{length-bits, length_bits_of}
 use Rattle.frozen_cli.specs.Layout.{stride, Fits}
 use Rattle.frozen_cli.specs.Packing.{image, IsPacking}
 
@@ -71,10 +71,6 @@ fits_at [] (x ∷ xs) i h l = absurd h
 fits_at (w ∷ ws) [] i h l = absurd h
 fits_at (w ∷ ws) (x ∷ xs) zero h l = h.0
 fits_at (w ∷ ws) (x ∷ xs) (suc i) h l = fits_at ws xs i h.1 (omega arith)
-
-pub length-bits_of : (bs : List ℕ) → length (bits_of bs) ≡ 8 * length bs
-length-bits_of [] = refl
-length-bits_of (b ∷ bs) = length-append (bits 8 b) (bits_of bs) ∙ omega (arith, length-bits 8 b, length-bits_of bs)
 
 pub length-image : (ws : List ℕ) (xs : List ℤ) → length ws ≡ length xs → length (image ws xs) ≡ stride ws
 length-image [] xs e = refl
@@ -146,7 +142,7 @@ written_all ws xs i bit content past was e len =
     sym (append-nil (take bit (bits_of content))) ∙ (ap (λ vs. take bit (bits_of content) ++ image vs (drop i xs)) (sym none) ∙ was.front) in
     record {
       padding = length (bits_of content) - bit;
-      short = omega (arith, length-bits_of content);
+      short = omega (arith, length_bits_of content);
       written = sym (take-append-drop bit (bits_of content)) ∙ (ap (λ bs. bs ++ drop bit (bits_of content)) front ∙ ap (λ bs. image ws xs ++ bs) was.back);
     }
 

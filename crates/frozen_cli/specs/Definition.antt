@@ -1,27 +1,27 @@
--- What the program needs of a definition: how many fields its root has, the field of a name, and the form of the root that is built.
+-- What the program needs of a definition: its root's fields, the field of a name, and the form of a root that is built.
 use Rattle.std.specs.Prelude.{◌≡◌, ◌<◌, ◌≤◌, ℕ, suc, ℤ, pos, List, [], ◌∷◌, length, Option, find}
 use Rattle.std.specs.Str.{bytes_eq}
 use Rattle.idl_profile.specs.declared.kinds.Need.TheVariants.{Plain}
 use Rattle.idl_profile.specs.declared.kinds.TypeKind.TheVariants.{I32}
-use Rattle.idl_profile.specs.Types.{Named, Field, without, kind_of, root_of, fields_of}
+use Rattle.idl_profile.specs.Types.{Named, DefField, without, kind_of, root_of, fields_of}
 
 -- the number of the root's fields
 abbrev pub field_count : List Named → ℕ
 field_count d = length (fields_of (root_of d))
 
 -- the root's field of that name, where it has one
-abbrev pub field_named : List Named → List ℕ → Option Field
+abbrev pub field_named : List Named → List ℕ → Option DefField
 field_named d name = find (λ f. bytes_eq f.name name) (fields_of (root_of d))
 
 -- a field of the form that is built: it has that id, is neither required nor optional, is an i32, and has no default
-pub record IsThinField (id : ℕ) (f : Field) : Type 0 where
+pub record IsThinField (id : ℕ) (f : DefField) : Type 0 where
   pub numbered : f.id ≡ pos id
   pub plain : f.need ≡ Plain
   pub number : kind_of f.type ≡ I32
   pub bare : f.default ≡ without
 
 -- fields with the ids from that one on, each of that form
-abbrev pub AreThinFields : ℕ → List Field → Type 0
+abbrev pub AreThinFields : ℕ → List DefField → Type 0
 AreThinFields id [] = Unit {0}
 AreThinFields id (f ∷ fs) = IsThinField id f × AreThinFields (suc id) fs
 

@@ -1,5 +1,6 @@
 pub mod Refusal
-pub mod Places
+pub mod Stages
+pub mod Changes
 pub mod Layout
 pub mod Schema
 pub mod Packing

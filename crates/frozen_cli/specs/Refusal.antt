@@ -6,9 +6,10 @@ use Rattle.idl_parse.specs.declared.fault.DefFault.TheVariants as faults
 use Rattle.frozen_cli.specs.declared.refusal.Role.{Role}
 use Rattle.frozen_cli.specs.declared.refusal.Role.TheVariants.{Definition, Value, File}
 use Rattle.frozen_cli.specs.declared.refusal.Refusal.{Refusal}
-use Rattle.frozen_cli.specs.declared.refusal.Refusal.TheVariants.{Usage, Missing, Unreadable, TooLarge, BadDefinition, NotYetLine, NotYetByte, NoField}
-use Rattle.frozen_cli.specs.declared.refusal.Stop.{Stop}
-use Rattle.frozen_cli.specs.declared.refusal.Stop.TheVariants.{Refused, NoMemory}
+use Rattle.frozen_cli.specs.declared.refusal.Refusal.TheVariants.{Usage, Missing, Unreadable, TooLarge}
+use Rattle.frozen_cli.specs.declared.refusal.Refusal.TheVariants.{BadDefinition, NotYetLine, NotYetByte, NoField}
+use Rattle.frozen_cli.specs.declared.refusal.Failure.{Failure}
+use Rattle.frozen_cli.specs.declared.refusal.Failure.TheVariants.{Refused, NoMemory}
 
 -- what a named file is called on err
 abbrev pub role_name : Role → List ℕ
@@ -89,7 +90,7 @@ IsUnreadable (NoField _) = ⊥
 abbrev pub IsReading : Refusal → Type 0
 IsReading r = IsMissing r ⊎ IsUnreadable r
 
--- the stop is a refusal with this property
-abbrev pub IsRefused : (Refusal → Type 0) → Stop → Type 0
+-- the failure is a refusal with this property
+abbrev pub IsRefused : (Refusal → Type 0) → Failure → Type 0
 IsRefused P (Refused r) = P r
 IsRefused P NoMemory = ⊥

@@ -1,5 +1,6 @@
--- What the program answers to words and files: place after place, the first refusal, or else the output.
-use Rattle.std.specs.Prelude.{◌≡◌, ◌⊎◌, ◌^◌, ℕ, zero, suc, ℤ, pos, negsuc, List, [], ◌∷◌, ◌++◌, codes, if◌then◌else◌, None, Some, Option, IsSomeAnd, Result, Ok, Err, slice_get}
+-- What the program answers to words and files: stage after stage, the first refusal, or else the output.
+use Rattle.std.specs.Prelude.{◌≡◌, ◌⊎◌, ◌^◌, ℕ, zero, suc, ℤ, pos, negsuc, List, [], ◌∷◌, ◌++◌, slice_get}
+use Rattle.std.specs.Prelude.{codes, if◌then◌else◌, None, Some, Option, IsSomeAnd, Result, Ok, Err}
 use Rattle.std.specs.Fmt.{signed_decimal}
 use Rattle.std.specs.Str.{bytes_eq}
 use Rattle.fz_base.specs.Files.{Held}
@@ -7,7 +8,7 @@ use Rattle.frozen_cli.specs.declared.refusal.Role.TheVariants.{Definition, Value
 use Rattle.frozen_cli.specs.declared.refusal.Refusal.{Refusal}
 use Rattle.frozen_cli.specs.declared.refusal.Refusal.TheVariants.{Usage, BadDefinition, NotYetLine, NotYetByte, NoField}
 use Rattle.frozen_cli.specs.Refusal.{status_of, line_of, IsUnreadable}
-use Rattle.frozen_cli.specs.Places.{Then, Reads}
+use Rattle.frozen_cli.specs.Stages.{ThenStage, ReadStage}
 use Rattle.frozen_cli.specs.Path.{FieldPath}
 use Rattle.idl_profile.specs.Types.{Named}
 use Rattle.idl_parse.specs.declared.fault.DefFault.{DefFault}
@@ -32,56 +33,56 @@ form_of (command ∷ def ∷ value ∷ []) = if bytes_eq command (codes "freeze"
 form_of (command ∷ def ∷ file ∷ path ∷ []) = if bytes_eq command (codes "get") then Some (get def file path) else None
 form_of (command ∷ def ∷ file ∷ path ∷ w ∷ ws) = None
 
--- the place of the words
-abbrev pub WordsAt : List (List ℕ) → Result Form Refusal → Type 0
-WordsAt words (Ok form) = form_of words ≡ Some form
-WordsAt words (Err r) = (r ≡ Usage) × (form_of words ≡ None)
+-- the stage of the words: their form
+abbrev pub WordsStage : List (List ℕ) → Result Form Refusal → Type 0
+WordsStage words (Ok form) = form_of words ≡ Some form
+WordsStage words (Err r) = (r ≡ Usage) × (form_of words ≡ None)
 
--- the place of a path: the field's name
-abbrev pub PathAt : List ℕ → Result (List ℕ) Refusal → Type 0
-PathAt text (Ok name) = FieldPath text name
-PathAt text (Err r) = (r ≡ NotYetByte 0) × ((name : List ℕ) → FieldPath text name → ⊥)
+-- the stage of a path: the field's name
+abbrev pub PathStage : List ℕ → Result (List ℕ) Refusal → Type 0
+PathStage text (Ok name) = FieldPath text name
+PathStage text (Err r) = (r ≡ NotYetByte 0) × ((name : List ℕ) → FieldPath text name → ⊥)
 
--- the place of a definition
-abbrev pub DefinitionAt : List ℕ → Result (List Named) Refusal → Type 0
-DefinitionAt text (Ok d) = DefText text d
-DefinitionAt text (Err r) = (fault : DefFault) × FirstFault text fault × (r ≡ BadDefinition fault)
+-- the stage of a definition text: its meaning, or its first fault
+abbrev pub DefinitionStage : List ℕ → Result (List Named) Refusal → Type 0
+DefinitionStage text (Ok d) = DefText text d
+DefinitionStage text (Err r) = (fault : DefFault) × FirstFault text fault × (r ≡ BadDefinition fault)
 
--- the place of a definition's root, which has the form that is built; the definition stays
-abbrev pub RootAt : List Named → Result (List Named) Refusal → Type 0
-RootAt d (Ok same) = (same ≡ d) × HasThinRoot d
-RootAt d (Err r) = (r ≡ NotYetLine 1) × (HasThinRoot d → ⊥)
+-- the stage of a definition's root, which has the form that is built; the definition stays
+abbrev pub RootStage : List Named → Result (List Named) Refusal → Type 0
+RootStage d (Ok same) = (same ≡ d) × HasThinRoot d
+RootStage d (Err r) = (r ≡ NotYetLine 1) × (HasThinRoot d → ⊥)
 
--- the place of a value: a number for each field
-abbrev pub ValueAt : List Named → List ℕ → Result (List ℤ) Refusal → Type 0
-ValueAt d bytes (Ok xs) = IsThin (field_count d) xs bytes
-ValueAt d bytes (Err r) = (r ≡ NotYetByte 0) × ((xs : List ℤ) → IsThin (field_count d) xs bytes → ⊥)
+-- the stage of a value: a number for each field
+abbrev pub ValueStage : List Named → List ℕ → Result (List ℤ) Refusal → Type 0
+ValueStage d bytes (Ok xs) = IsThin (field_count d) xs bytes
+ValueStage d bytes (Err r) = (r ≡ NotYetByte 0) × ((xs : List ℤ) → IsThin (field_count d) xs bytes → ⊥)
 
--- the place of a frozen file: the value that it holds
-abbrev pub FileAt : List Named → List ℕ → Result (List ℤ) Refusal → Type 0
-FileAt d bytes (Ok xs) = FileOf (field_count d) bytes xs
-FileAt d bytes (Err r) = (r ≡ NotYetByte 0) × ((xs : List ℤ) → FileOf (field_count d) bytes xs → ⊥)
+-- the stage of a frozen file: the value that it holds
+abbrev pub FileStage : List Named → List ℕ → Result (List ℤ) Refusal → Type 0
+FileStage d bytes (Ok xs) = FileOf (field_count d) bytes xs
+FileStage d bytes (Err r) = (r ≡ NotYetByte 0) × ((xs : List ℤ) → FileOf (field_count d) bytes xs → ⊥)
 
--- the fit of a path: the id of the root's field of that name
-abbrev pub FitAt : List Named → List ℕ → Result ℤ Refusal → Type 0
-FitAt d name (Ok id) = IsSomeAnd (field_named d name) (λ f. f.id ≡ id)
-FitAt d name (Err r) = (r ≡ NoField 0) × (field_named d name ≡ None)
+-- the stage of a field's name: the id of the root's field of that name
+abbrev pub FieldStage : List Named → List ℕ → Result ℤ Refusal → Type 0
+FieldStage d name (Ok id) = IsSomeAnd (field_named d name) (λ f. f.id ≡ id)
+FieldStage d name (Err r) = (r ≡ NoField 0) × (field_named d name ≡ None)
 
 -- the definition in a file
 abbrev pub DefinitionIn : Option (List ℕ) → Result (List Named) Refusal → Type 0
-DefinitionIn file = Then (Reads Definition (2 ^ 20) file) DefinitionAt
+DefinitionIn file = ThenStage (ReadStage Definition (2 ^ 20) file) DefinitionStage
 
 -- the definition in a file, with a root of the form that is built
 abbrev pub ThinDefinitionIn : Option (List ℕ) → Result (List Named) Refusal → Type 0
-ThinDefinitionIn file = Then (DefinitionIn file) RootAt
+ThinDefinitionIn file = ThenStage (DefinitionIn file) RootStage
 
 -- the value in a file
 abbrev pub ValueIn : List Named → Option (List ℕ) → Result (List ℤ) Refusal → Type 0
-ValueIn d file = Then (Reads Value (2 ^ 26) file) (ValueAt d)
+ValueIn d file = ThenStage (ReadStage Value (2 ^ 26) file) (ValueStage d)
 
 -- the value that a frozen file holds
 abbrev pub FileIn : List Named → Option (List ℕ) → Result (List ℤ) Refusal → Type 0
-FileIn d file = Then (Reads FileRole (2 ^ 30) file) (FileAt d)
+FileIn d file = ThenStage (ReadStage FileRole (2 ^ 30) file) (FileStage d)
 
 -- the output of `freeze`: the frozen file of the value in its least layout
 abbrev pub Freezes : List Named → List ℤ → Result (List ℕ) Refusal → Type 0
@@ -99,21 +100,25 @@ abbrev pub Shows : List ℤ → ℤ → Result (List ℕ) Refusal → Type 0
 Shows xs id (Ok out) = IsSomeAnd (number_of xs id) (λ x. out ≡ signed_decimal x ++ 10 ∷ [])
 Shows xs id (Err r) = ⊥
 
+-- under a definition: the value in a file, and the frozen file of it
+abbrev pub FrozenUnder : Held → List ℕ → List Named → Result (List ℕ) Refusal → Type 0
+FrozenUnder held value d = ThenStage (ValueIn d (held value)) (λ xs. Freezes d xs)
+
 -- what `freeze` gives
 abbrev pub FreezeGives : Held → List ℕ → List ℕ → Result (List ℕ) Refusal → Type 0
-FreezeGives held def value = Then (ThinDefinitionIn (held def)) (λ d. Then (ValueIn d (held value)) (λ xs. Freezes d xs))
+FreezeGives held def value = ThenStage (ThinDefinitionIn (held def)) (λ d. FrozenUnder held value d)
 
--- in a file under a definition: the value, the fit of the path, and its text
+-- in a file under a definition: the value, the field of that name, and the text of its number
 abbrev pub PartUnder : Held → List ℕ → List Named → List ℕ → Result (List ℕ) Refusal → Type 0
-PartUnder held file d name = Then (FileIn d (held file)) (λ xs. Then (FitAt d name) (λ id. Shows xs id))
+PartUnder held file d name = ThenStage (FileIn d (held file)) (λ xs. ThenStage (FieldStage d name) (λ id. Shows xs id))
 
 -- under a definition in a file: the part of a frozen file
 abbrev pub PartIn : Held → List ℕ → List ℕ → List ℕ → Result (List ℕ) Refusal → Type 0
-PartIn held def file name = Then (ThinDefinitionIn (held def)) (λ d. PartUnder held file d name)
+PartIn held def file name = ThenStage (ThinDefinitionIn (held def)) (λ d. PartUnder held file d name)
 
 -- what `get` gives
 abbrev pub GetGives : Held → List ℕ → List ℕ → List ℕ → Result (List ℕ) Refusal → Type 0
-GetGives held def file path = Then (PathAt path) (PartIn held def file)
+GetGives held def file path = ThenStage (PathStage path) (PartIn held def file)
 
 -- the output of `print`
 abbrev pub Writes : List ℕ → Result (List ℕ) Refusal → Type 0
@@ -121,7 +126,7 @@ Writes out result = result ≡ Ok out
 
 -- what `print` gives
 abbrev pub PrintGives : Held → List ℕ → Result (List ℕ) Refusal → Type 0
-PrintGives held def = Then (DefinitionIn (held def)) (λ d. Writes (printed d))
+PrintGives held def = ThenStage (DefinitionIn (held def)) (λ d. Writes (printed d))
 
 -- what a command gives
 abbrev pub FormGives : Held → Form → Result (List ℕ) Refusal → Type 0
@@ -130,11 +135,12 @@ FormGives held (get def file path) = GetGives held def file path
 FormGives held (print def) = PrintGives held def
 
 -- the first refusal, or else the output
-abbrev pub Answers : List (List ℕ) → Held → Result (List ℕ) Refusal → Type 0
-Answers words held = Then (WordsAt words) (FormGives held)
+abbrev pub CommandGives : List (List ℕ) → Held → Result (List ℕ) Refusal → Type 0
+CommandGives words held = ThenStage (WordsStage words) (FormGives held)
 
 -- what the program answers: its status, and what it writes to out and to err
 abbrev pub Reply : List (List ℕ) → Held → ℕ → List ℕ → List ℕ → Type 0
 Reply words held status out err =
-    ((status ≡ 0) × (err ≡ []) × Answers words held (Ok out))
-    ⊎ ((r : Refusal) × (IsUnreadable r → ⊥) × (status ≡ status_of r) × (out ≡ []) × (err ≡ line_of r) × Answers words held (Err r))
+    ((status ≡ 0) × (err ≡ []) × CommandGives words held (Ok out))
+    ⊎ ((r : Refusal) × (IsUnreadable r → ⊥) × (status ≡ status_of r) × (out ≡ []) × (err ≡ line_of r)
+    × CommandGives words held (Err r))

@@ -1,5 +1,6 @@
 // Frozen files: composing one, and opening one in place.
-ghost use Rattle.std.specs.Prelude.{◌≡◌, ◌≤◌, ◌<◌, ◌*◌, ◌↔◌, ℕ, ℤ, List, IfOk, IfSome, IfNone, IsSomeAnd, IsTrue, length};
+ghost use Rattle.std.specs.Prelude.{◌≡◌, ◌≤◌, ◌<◌, ◌*◌, ◌↔◌, ℕ, ℤ, List, length};
+ghost use Rattle.std.specs.Prelude.{IfOk, IfSome, IfNone, IsSomeAnd, IsTrue};
 ghost use Rattle.std.specs.List.{AllByRecursion};
 ghost use Rattle.frozen_cli.specs.Layout.{IsLayout};
 ghost use Rattle.frozen_cli.specs.Opening.{IsContent, IsUnpacked};
@@ -65,7 +66,8 @@ const LEAF: usize = 13;
 /// The place of the width's byte in a field's layout.
 const WIDTH: usize = 4;
 
-/// The part of a file in which the layouts of so many fields would stand, where it is long enough.
+/// The bytes at which a file of that many fields has the layouts of its fields, or `None` where the bytes are too few
+/// for such a file.
 fn leaves_in(fields: usize, bytes: &[u8]) -> Option<&[u8]>
     requires { fields ≤ MAX_FIELDS }
     ensures len { IfSome result (λ part. length part.now ≡ LEAF * fields) }
@@ -86,7 +88,7 @@ fn leaves_in(fields: usize, bytes: &[u8]) -> Option<&[u8]>
     Some(&bytes[last - LEAF * fields..last])
 }
 
-/// The width that a byte of a schema writes, where it writes one.
+/// The width, from 0 to 32, whose byte in a schema this is, or `None` where it is the byte of no width.
 fn width_of(code: u8) -> Option<u32>
     ensures width { IfSome result (λ w. (w ≤ 32) × (code ≡ 2 * w)) }
     ensures none { IfNone result ((w : ℕ) → w ≤ 32 → code ≡ 2 * w → ⊥) }
@@ -100,12 +102,13 @@ fn width_of(code: u8) -> Option<u32>
     Some(u32::from(code / 2))
 }
 
-/// The layout of so many fields whose widths stand at their places in a file, where each of them is one.
+/// The layout of a file of that many fields, by the byte that each field's width has in it, or `None` where the bytes
+/// are too few, or one of these is the byte of no width.
 fn layout_in(alloc: Global, fields: usize, bytes: &[u8]) -> Result<Option<Layout>, AllocError>
     requires { fields ≤ MAX_FIELDS }
     ensures layout { IfOk result (λ found. IfSome found (λ layout. IsLayout fields layout.widths.items)) }
-    ensures exact { IfOk result (λ found. (ws content : List ℕ) → IsLayout fields ws → bytes.now ≡ frozen ws content
-        → IsSomeAnd found (λ layout. layout.widths.items ≡ ws)) }
+    ensures exact { IfOk result (λ found. (ws content : List ℕ) → IsLayout fields ws
+        → bytes.now ≡ frozen ws content → IsSomeAnd found (λ layout. layout.widths.items ≡ ws)) }
 {
     let Some(leaves) = leaves_in(fields, bytes) else {
         return Ok(None);
@@ -149,7 +152,7 @@ fn read_numbers(alloc: Global, layout: &Layout, content: &[u8]) -> Result<Vec<i3
     Ok(numbers)
 }
 
-/// The numbers of so many fields that a frozen file holds, where the bytes are one.
+/// The numbers that a frozen file of that many fields holds, or `None` where the bytes are no such file.
 pub fn open(alloc: Global, fields: usize, bytes: &[u8]) -> Result<Option<Vec<i32>>, AllocError>
     requires { fields ≤ MAX_FIELDS }
     ensures some { IfOk result (λ found. IfSome found (λ numbers. FileOf fields bytes.now numbers.items)) }

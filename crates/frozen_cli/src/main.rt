@@ -7,17 +7,16 @@ mod file;
 mod layout;
 mod pack;
 mod path;
-mod places;
 mod refusal;
 mod run;
 mod schema;
+mod stages;
 mod thin;
 mod words;
 
-use crate::run::run;
+use crate::run::start;
 use fz_base::{OsFiles, OsSink};
 use std::alloc::Global;
-use std::io::ErrorKind;
 use std::process::ExitCode;
 use std::{env, io, rt};
 
@@ -27,15 +26,11 @@ fn words_of<R: rt::Env + AllocGlobal>(rt: &R) -> io::Result<Vec<String>> {
 }
 
 fn main(rt: HostRuntime) -> ExitCode {
-    let words = match words_of(&rt) {
-        Ok(words) => words,
-        Err(e) if e.kind() == ErrorKind::OutOfMemory => return ExitCode::from(6),
-        Err(_) => return ExitCode::from(2),
-    };
+    let words = words_of(&rt);
     let mut files = OsFiles::new(&rt);
     let mut out = OsSink::new(rt.stdout());
     let mut err = OsSink::new(rt.stderr());
-    ExitCode::from(run(rt.alloc(), &words, &mut files, &mut out, &mut err))
+    start(rt.alloc(), words, &mut files, &mut out, &mut err)
 }
 
 #[cfg(test)]

@@ -1,12 +1,13 @@
 // Paths of one field step: a dot and a name.
 ghost use Rattle.std.specs.Prelude.{◌≡◌, IsErrAnd};
 ghost use Rattle.std.specs.List.{list_all};
-ghost use Rattle.frozen_cli.specs.Path.{begins_name as begins_word, continues_name as continues_word, is_name as is_word};
-ghost use Rattle.frozen_cli.specs.Places.{Gives};
+ghost use Rattle.frozen_cli.specs.Path.{begins_name as begins_word, continues_name as continues_word};
+ghost use Rattle.frozen_cli.specs.Path.{is_name as is_word};
+ghost use Rattle.frozen_cli.specs.Stages.{StageGives};
 ghost use Rattle.frozen_cli.specs.Refusal.{IsRefused, IsReading};
-ghost use Rattle.frozen_cli.specs.Reply.{PathAt};
+ghost use Rattle.frozen_cli.specs.Reply.{PathStage};
 
-use crate::refusal::{Refusal, Stop};
+use crate::refusal::{Failure, Refusal};
 
 /// A letter or `_`.
 fn begins_name(byte: u8) -> bool
@@ -45,12 +46,12 @@ fn is_name(bytes: &[u8]) -> bool
 }
 
 /// The name in a path of one field step.
-pub fn field_name(text: &str) -> Result<&str, Stop>
-    ensures gives { Gives (λ name. name.now) (PathAt text.now) result }
+pub fn field_name(text: &str) -> Result<&str, Failure>
+    ensures gives { StageGives (λ name. name.now) (PathStage text.now) result }
     ensures no_file { IsErrAnd result (IsRefused IsReading) → ⊥ }
 {
     match text.as_bytes() {
         [b'.', name @ ..] if is_name(name) => Ok(&text[1..]),
-        _ => Err(Stop::Refused(Refusal::NotYetByte(0))),
+        _ => Err(Failure::Refused(Refusal::NotYetByte(0))),
     }
 }

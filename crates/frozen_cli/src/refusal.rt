@@ -1,10 +1,10 @@
 // Why a command is refused, its exit status, and the line that says so.
 ghost use Rattle.std.specs.Prelude.{◌≡◌, Some, IfOk, string_bytes};
-ghost use Rattle.frozen_cli.specs.declared.refusal.Stop.TheVariants.{NoMemory};
+ghost use Rattle.frozen_cli.specs.declared.refusal.Failure.TheVariants.{NoMemory};
 
-use idl_parse::DefFault;
 use std::alloc::{AllocError, AllocFailed, Global};
 use std::fmt;
+use thrift_idl::DefFault;
 
 /// What a named file is read for.
 #[derive(Clone, Copy, Debug, PartialEq, Eq)]
@@ -40,26 +40,26 @@ pub enum Refusal {
 
 /// Why a command has no output.
 #[derive(Clone, Copy, Debug, PartialEq, Eq)]
-pub enum Stop {
+pub enum Failure {
     /// It is refused.
     Refused(Refusal),
     /// There is not enough memory.
     NoMemory,
 }
 
-impl From<AllocError> for Stop {
+impl From<AllocError> for Failure {
     ghost from_gives = { λ _ e. e ≡ NoMemory };
 
     fn from(_: AllocError) -> Self {
-        Stop::NoMemory
+        Failure::NoMemory
     }
 }
 
-impl<T: Drop> From<AllocFailed<T>> for Stop {
+impl<T: Drop> From<AllocFailed<T>> for Failure {
     ghost from_gives = { λ _ e. e ≡ NoMemory };
 
     fn from(_: AllocFailed<T>) -> Self {
-        Stop::NoMemory
+        Failure::NoMemory
     }
 }
 

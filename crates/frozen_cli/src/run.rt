@@ -1,14 +1,17 @@
-// The top call.
-ghost use Rattle.std.specs.Prelude.{◌≡◌, ◌≤◌, ◌⊎◌, [], IfSome, map, string_bytes};
-ghost use Rattle.fz_base.specs.Counts.{Rose};
-ghost use Rattle.frozen_cli.specs.Run.{sent, Got, HasFailed, Replies, FileMissing, FileUnreadable, OutFails, ErrFails};
+// The top call, and the start of the program.
+ghost use Rattle.std.specs.Prelude.{map, string_bytes};
+ghost use Rattle.std.specs.Process.{exit_status};
+ghost use Rattle.frozen_cli.specs.Changes.{seen, sent};
+ghost use Rattle.frozen_cli.specs.Run.{Runs, Starts};
 
 use crate::answer::answer;
 use crate::deliver::deliver;
 use fz_base::{Files, Sink};
 use std::alloc::Global;
+use std::io::{self, ErrorKind};
+use std::process::ExitCode;
 
-/// Runs the command that the words spell, and gives the exit status.
+/// Runs the command that the words spell, and gives the exit status, from 0 to 6.
 pub fn run<F: Files, O: Sink, E: Sink>(
     alloc: Global,
     words: &Vec<String>,
@@ -16,34 +19,30 @@ pub fn run<F: Files, O: Sink, E: Sink>(
     out: &mut O,
     err: &mut E,
 ) -> u8
-    ensures status { result ≤ 6 }
-    ensures kept { F.held files.new ≡ F.held files.old }
-
-    // At a status up to 3 it is the reply to the words and the files.
-    ensures reply { result ≤ 3 → IfSome (F.held files.old) (λ held. Replies (map string_bytes words.now.items) held result
-        (sent O.written O.faults out.old out.new) (sent E.written E.faults err.old err.new)) }
-
-    // At status 4 a file was missing or unreadable.
-    ensures read_fault { result ≡ 4 → Got (sent O.written O.faults out.old out.new) []
-        × (FileMissing (map string_bytes words.now.items) (F.held files.old) (Rose (F.misses files.old) (F.misses files.new)) (sent E.written E.faults err.old err.new)
-        ⊎ FileUnreadable (map string_bytes words.now.items) (F.held files.old) (Rose (F.faults files.old) (F.faults files.new)) (sent E.written E.faults err.old err.new)) }
-
-    // At status 5 a sink failed.
-    ensures write_fault { result ≡ 5 →
-        OutFails (map string_bytes words.now.items) (F.held files.old) (sent O.written O.faults out.old out.new) (sent E.written E.faults err.old err.new)
-        ⊎ ErrFails (map string_bytes words.now.items) (F.held files.old) (Rose (F.faults files.old) (F.faults files.new))
-        (sent O.written O.faults out.old out.new) (sent E.written E.faults err.old err.new) }
-
-    // At status 6 nothing was written.
-    ensures memory { result ≡ 6 → Got (sent O.written O.faults out.old out.new) [] × Got (sent E.written E.faults err.old err.new) [] }
-
-    // Where nothing failed it is the reply, or there is not enough memory.
-    ensures answers_are_complete { IfSome (F.held files.old) (λ held.
-        (Rose (F.faults files.old) (F.faults files.new) → ⊥) → (HasFailed (sent O.written O.faults out.old out.new) → ⊥)
-        → (HasFailed (sent E.written E.faults err.old err.new) → ⊥)
-        → (result ≡ 6) ⊎ Replies (map string_bytes words.now.items) held result
-        (sent O.written O.faults out.old out.new) (sent E.written E.faults err.old err.new)) }
+    ensures { Runs (map string_bytes words.now.items) (seen F.held F.misses F.faults files.old files.new)
+        (sent O.written O.faults out.old out.new) (sent E.written E.faults err.old err.new) result }
 {
     let answer = answer(alloc, words, files);
     deliver(alloc, answer, out, err)
+}
+
+/// The program, of which `main` only makes the parts: a run of the words, where they can be had.
+pub fn start<F: Files, O: Sink, E: Sink>(
+    alloc: Global,
+    words: io::Result<Vec<String>>,
+    files: &mut F,
+    out: &mut O,
+    err: &mut E,
+) -> ExitCode
+    ensures { Starts words (seen F.held F.misses F.faults files.old files.new)
+        (sent O.written O.faults out.old out.new) (sent E.written E.faults err.old err.new)
+        (exit_status result) }
+{
+    match words {
+        Ok(words) => ExitCode::from(run(alloc, &words, files, out, err)),
+        Err(e) => match e.kind() {
+            ErrorKind::OutOfMemory => ExitCode::from(6),
+            _ => ExitCode::from(2),
+        },
+    }
 }

@@ -1,12 +1,14 @@
 // Whole runs of the program, over files and sinks in memory.
-use crate::run::run;
+use crate::run::{run, start};
 use fz_base::{MemFiles, MemSink};
 use std::alloc::{AllocError, Global};
+use std::io::{self, ErrorKind};
 use std::test::Fail;
 
 // The file of 5 and -1: magic and length, schema, content.
 const FILE: &[u8] =
-    b"FZ2P\x40\0\0\0\x12\x1B\x03\x4C\0\x15\0\x14\x0A\x1B\x02\x4C\x02\x14\x02\x14\0\0\x04\x14\x04\x14\x07\0\x18\x06struct\0\x02\x15\0\x14\x08\x1B\0\x18\x03i32\0\x04\x15\0\x14\x02\x1B\0\x18\x03i32\0\x14\0\x15\x02\0\x15";
+    b"FZ2P\x40\0\0\0\x12\x1B\x03\x4C\0\x15\0\x14\x0A\x1B\x02\x4C\x02\x14\x02\x14\0\0\x04\x14\x04\x14\x07\0\
+    \x18\x06struct\0\x02\x15\0\x14\x08\x1B\0\x18\x03i32\0\x04\x15\0\x14\x02\x1B\0\x18\x03i32\0\x14\0\x15\x02\0\x15";
 
 // A run's status, and what it wrote to out and to err.
 #[derive(Drop)]
@@ -69,6 +71,34 @@ fn run_line(alloc: Global, line: &str, faults: Faults) -> Result<Ran, AllocError
     let mut err = MemSink::new(alloc, 100, 10, Vec::new(alloc))?;
     let status = run(alloc, &words, &mut files, &mut out, &mut err);
     Ok(Ran { status, out, err })
+}
+
+#[test]
+fn a_field_of_a_file_is_shown(rt: HostRuntime) -> Result<(), Fail> {
+    // `def` is `struct P {1: i32 x; 2: i32 y}`, and `file` the frozen file of 5 and -1 under it
+    let ran = run_line(rt.alloc(), "get def file .y", NO_FAULTS)?;
+    assert_eq!(rt; ran.status, 0);
+    assert_eq!(rt; ran.out.bytes(), b"-1\n".as_slice());
+    assert!(rt; ran.err.bytes().is_empty());
+    Ok(())
+}
+
+// Words that cannot be had: nothing is written, and the status says whether memory was wanting.
+#[test]
+fn a_start_without_words_ends(rt: HostRuntime) -> Result<(), Fail> {
+    let alloc = rt.alloc();
+    for (kind, status) in [(ErrorKind::OutOfMemory, 6), (ErrorKind::InvalidData, 2)] {
+        let mut files = files_of(alloc, 0)?;
+        let mut out = MemSink::new(alloc, 100, 10, Vec::new(alloc))?;
+        let mut err = MemSink::new(alloc, 100, 10, Vec::new(alloc))?;
+        let words = Err(io::Error::from(kind));
+        let code = start(alloc, words, &mut files, &mut out, &mut err);
+        let shown = format!(in alloc; "{code:?}")?;
+        let wanted = format!(in alloc; "ExitCode(unix_exit_status({status}))")?;
+        assert_eq!(rt; shown.as_str(), wanted.as_str());
+        assert!(rt; out.bytes().is_empty() && err.bytes().is_empty());
+    }
+    Ok(())
 }
 
 // Each row: the words; the status, out and err.

@@ -1,8 +1,8 @@
-// The form of a root that is built: from 1 to 60 fields of type i32, numbered from 1, plain and without defaults.
+// The form of a root that is built: from 1 to 60 plain fields of type i32 with the ids from 1 on and no defaults.
 ghost use Rattle.std.specs.Prelude.{◌≡◌, ◌↔◌, IsTrue};
 ghost use Rattle.idl_profile.specs.Types.{without};
 ghost use Rattle.idl_parse.specs.Parsed.{definition_of};
-ghost use Rattle.idl_parse.specs.Told.{told_field, told_default};
+ghost use Rattle.idl_parse.specs.Refs.{field_of_ref, default_of_ref};
 ghost use Rattle.frozen_cli.specs.Definition.{IsThinField, HasThinRoot};
 
 use crate::layout::MAX_FIELDS;
@@ -41,7 +41,7 @@ fn is_i32(kind: TypeKind) -> bool
 
 /// Whether no default is written.
 fn is_bare(default: DefaultRef<'_>) -> bool
-    ensures { IsTrue result ↔ (told_default default.entry ≡ without) }
+    ensures { IsTrue result ↔ (default_of_ref default.entry ≡ without) }
 {
     match default {
         DefaultRef::Without => true,
@@ -54,7 +54,7 @@ fn is_bare(default: DefaultRef<'_>) -> bool
 
 /// Whether a field is of the form that is built and has that id.
 fn is_thin_field(field: FieldRef<'_>, id: u16) -> bool
-    ensures { IsTrue result ↔ IsThinField id (told_field field.entry) }
+    ensures { IsTrue result ↔ IsThinField id (field_of_ref field.entry) }
 {
     if i32::from(field.id()) != i32::from(id) {
         return false;

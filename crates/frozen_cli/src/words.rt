@@ -1,11 +1,11 @@
 // The words of a command.
 ghost use Rattle.std.specs.Prelude.{map, string_bytes, IsErrAnd};
-ghost use Rattle.frozen_cli.specs.Places.{Gives};
+ghost use Rattle.frozen_cli.specs.Stages.{StageGives};
 ghost use Rattle.frozen_cli.specs.Refusal.{IsRefused, IsReading};
-ghost use Rattle.frozen_cli.specs.Reply.{WordsAt};
+ghost use Rattle.frozen_cli.specs.Reply.{WordsStage};
 ghost use Rattle.frozen_cli.specs.Words.{form_in};
 
-use crate::refusal::{Refusal, Stop};
+use crate::refusal::{Failure, Refusal};
 
 /// A command with its words.
 #[derive(Clone, Copy, Debug)]
@@ -28,8 +28,8 @@ pub enum Command<'a> {
 }
 
 /// The command that the words spell.
-pub fn parse_words(words: &[String]) -> Result<Command<'_>, Stop>
-    ensures gives { Gives form_in (WordsAt (map string_bytes words.now)) result }
+pub fn parse_words(words: &[String]) -> Result<Command<'_>, Failure>
+    ensures gives { StageGives form_in (WordsStage (map string_bytes words.now)) result }
     ensures no_file { IsErrAnd result (IsRefused IsReading) → ⊥ }
 {
     match words {
@@ -43,6 +43,6 @@ pub fn parse_words(words: &[String]) -> Result<Command<'_>, Stop>
             file: file.as_str(),
             path: path.as_str(),
         }),
-        _ => Err(Stop::Refused(Refusal::Usage)),
+        _ => Err(Failure::Refused(Refusal::Usage)),
     }
 }

@@ -1,5 +1,6 @@
 -- What files hold, and what a read of a named file answers.
-use Rattle.std.specs.Prelude.{◌≡◌, ◌↔◌, ◌∷◌, [], if◌then◌else◌, ℕ, ◌<◌, ◌≤◌, List, length, take, drop, None, Some, Option, Result, Ok, Err, IsSomeAnd, String, string_bytes, ⊤}
+use Rattle.std.specs.Prelude.{◌≡◌, ◌↔◌, ◌∷◌, [], if◌then◌else◌, ℕ, ◌<◌, ◌≤◌, List, length, take, drop, ⊤}
+use Rattle.std.specs.Prelude.{None, Some, Option, Result, Ok, Err, IsSomeAnd, String, string_bytes}
 use Rattle.std.specs.Global.{Global, Vec}
 use Rattle.std.specs.Str.{bytes_eq}
 use Rattle.fz_base.specs.declared.files.FileFault.{FileFault}

@@ -1,5 +1,8 @@
 // The machine's files. They tell no bytes.
-ghost use Rattle.std.specs.Prelude.{◌≡◌, ◌≤◌, ◌^◌, None, IfOk, length};
+ghost use Rattle.std.specs.Prelude.{◌≡◌, ◌≤◌, ◌^◌, None, IfOk, IsErrOf, length};
+ghost use Rattle.fz_base.specs.Counts.{HasCause, MovesOnlyAt, counted};
+ghost use Rattle.fz_base.specs.Files.{taken};
+ghost use Rattle.fz_base.specs.MachineFiles.{AnswersRead};
 
 use crate::counts::count_up;
 use crate::{FileFault, Files};
@@ -29,6 +32,39 @@ impl<'a, R: rt::Files> OsFiles<'a, R> {
             given: 0,
         }
     }
+
+    /// The answer to a read of the machine, which is counted: a file that is not found is missing, and every other
+    /// error is a failed read.
+    fn answer(&mut self, read: io::Result<usize>) -> Result<usize, FileFault>
+        ensures answer { AnswersRead read result }
+        ensures failed { HasCause (⟦<OsFiles<'a, R> as Files>⟧.faults self.old)
+            (⟦<OsFiles<'a, R> as Files>⟧.faults self.new) (IsErrOf result FileFault.Failed) }
+        ensures missing { HasCause (⟦<OsFiles<'a, R> as Files>⟧.misses self.old)
+            (⟦<OsFiles<'a, R> as Files>⟧.misses self.new) (IsErrOf result FileFault.Missing) }
+        ensures unfailed { MovesOnlyAt (⟦<OsFiles<'a, R> as Files>⟧.faults self.old)
+            (⟦<OsFiles<'a, R> as Files>⟧.faults self.new) (IsErrOf result FileFault.Failed) }
+        ensures unmissed { MovesOnlyAt (⟦<OsFiles<'a, R> as Files>⟧.misses self.old)
+            (⟦<OsFiles<'a, R> as Files>⟧.misses self.new) (IsErrOf result FileFault.Missing) }
+        ensures given { ⟦<OsFiles<'a, R> as Files>⟧.given self.new
+            ≡ counted (⟦<OsFiles<'a, R> as Files>⟧.given self.old) (taken result) }
+    {
+        match read {
+            Ok(count) => {
+                count_up(&mut self.given, count as u64);
+                Ok(count)
+            }
+            Err(e) => match e.kind() {
+                ErrorKind::NotFound => {
+                    count_up(&mut self.misses, 1);
+                    Err(FileFault::Missing)
+                }
+                _ => {
+                    count_up(&mut self.faults, 1);
+                    Err(FileFault::Failed)
+                }
+            },
+        }
+    }
 }
 
 // Opens the file, goes to `at` and reads once.
@@ -50,19 +86,7 @@ impl<R: rt::Files> Files for OsFiles<'_, R> {
     ghost given = { λ s. s.given };
 
     fn read_at(&mut self, name: &str, at: u64, into: &mut [u8]) -> Result<usize, FileFault> {
-        match read_once(self.rt, name, at, into) {
-            Ok(count) => {
-                count_up(&mut self.given, count as u64);
-                Ok(count)
-            }
-            Err(e) if e.kind() == ErrorKind::NotFound => {
-                count_up(&mut self.misses, 1);
-                Err(FileFault::Missing)
-            }
-            Err(_) => {
-                count_up(&mut self.faults, 1);
-                Err(FileFault::Failed)
-            }
-        }
+        let read = read_once(self.rt, name, at, into);
+        self.answer(read)
     }
 }

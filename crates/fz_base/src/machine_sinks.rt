@@ -1,12 +1,12 @@
-// The machine's streams. They tell no bytes.
-ghost use Rattle.std.specs.Prelude.{◌≡◌, ◌<◌, ◌^◌, None};
+// The machine's streams. Of what is written they tell what the stream tells.
+ghost use Rattle.std.specs.Prelude.{◌≡◌, ◌<◌, ◌^◌};
 
 use crate::counts::count_up;
 use crate::{Sink, SinkFault};
 use std::io::Write;
 
-/// A stream of the machine, as standard output. Each write writes once, and one that takes nothing of a nonempty piece
-/// has failed.
+/// A stream, as standard output. Each write writes once, and one that takes nothing of a nonempty piece has failed.
+/// What was written is told where the stream tells its contents: over memory it does, and over the machine it does not.
 #[derive(Drop)]
 pub struct OsSink<W> {
     stream: W,
@@ -16,14 +16,15 @@ pub struct OsSink<W> {
 impl<W: Write> OsSink<W> {
     /// A sink over a stream, with no faults counted.
     pub fn new(stream: W) -> Self
-        ensures { ⟦<OsSink<W> as Sink>⟧.faults result ≡ 0 }
+        ensures written { ⟦<OsSink<W> as Sink>⟧.written result ≡ W.contents stream }
+        ensures faults { ⟦<OsSink<W> as Sink>⟧.faults result ≡ 0 }
     {
         OsSink { stream, faults: 0 }
     }
 }
 
 impl<W: Write> Sink for OsSink<W> {
-    ghost written = { λ _. None };
+    ghost written = { λ s. W.contents s.stream };
 
     ghost faults = { λ s. s.faults };
 

@@ -1,6 +1,7 @@
 // Files in memory: some that fail at the calls that they are told, and some that never fail.
-ghost use Rattle.std.specs.Prelude.{◌≡◌, ◌≤◌, ◌<◌, ◌^◌, ◌↔◌, Some, None, Ok, IfOk, IfSome, IsErrOf, length, Contains, option_copied};
-ghost use Rattle.fz_base.specs.Counts.{HasCause, counted};
+ghost use Rattle.std.specs.Prelude.{◌≡◌, ◌≤◌, ◌<◌, ◌^◌, ◌↔◌, Some, None, Ok, IfOk, IfSome, IsErrOf, length, Contains};
+ghost use Rattle.std.specs.Option.{option_copied};
+ghost use Rattle.fz_base.specs.Counts.{HasCause, MovesOnlyAt, counted};
 ghost use Rattle.fz_base.specs.Files.{Held, ReadsFrom, taken, held_in, entries_of};
 
 use crate::counts::count_up;
@@ -58,11 +59,19 @@ impl Files for MemFiles {
 
     fn read_at(&mut self, name: &str, at: u64, into: &mut [u8]) -> Result<usize, FileFault>
         ensures bound { IfOk result (λ n. n ≤ length into.new) }
-        ensures bytes { IfSome (⟦<MemFiles as Files>⟧.held self.old) (λ held. ReadsFrom (held name.now) at result into.new) }
+        ensures bytes { IfSome (⟦<MemFiles as Files>⟧.held self.old) (λ held.
+            ReadsFrom (held name.now) at result into.new) }
         ensures kept { ⟦<MemFiles as Files>⟧.held self.new ≡ ⟦<MemFiles as Files>⟧.held self.old }
-        ensures failed { HasCause (⟦<MemFiles as Files>⟧.faults self.old) (⟦<MemFiles as Files>⟧.faults self.new) (IsErrOf result FileFault.Failed) }
-        ensures missing { HasCause (⟦<MemFiles as Files>⟧.misses self.old) (⟦<MemFiles as Files>⟧.misses self.new) (IsErrOf result FileFault.Missing) }
-        ensures given { ⟦<MemFiles as Files>⟧.given self.new ≡ counted (⟦<MemFiles as Files>⟧.given self.old) (taken result) }
+        ensures failed { HasCause (⟦<MemFiles as Files>⟧.faults self.old) (⟦<MemFiles as Files>⟧.faults self.new)
+            (IsErrOf result FileFault.Failed) }
+        ensures missing { HasCause (⟦<MemFiles as Files>⟧.misses self.old) (⟦<MemFiles as Files>⟧.misses self.new)
+            (IsErrOf result FileFault.Missing) }
+        ensures unfailed { MovesOnlyAt (⟦<MemFiles as Files>⟧.faults self.old) (⟦<MemFiles as Files>⟧.faults self.new)
+            (IsErrOf result FileFault.Failed) }
+        ensures unmissed { MovesOnlyAt (⟦<MemFiles as Files>⟧.misses self.old) (⟦<MemFiles as Files>⟧.misses self.new)
+            (IsErrOf result FileFault.Missing) }
+        ensures given { ⟦<MemFiles as Files>⟧.given self.new
+            ≡ counted (⟦<MemFiles as Files>⟧.given self.old) (taken result) }
 
         // It gives at most a step, and fails exactly at the calls that were asked for.
         ensures step { IfOk result (λ n. n ≤ step_of self.old) }
@@ -125,13 +134,21 @@ impl Files for SureFiles {
 
     fn read_at(&mut self, name: &str, at: u64, into: &mut [u8]) -> Result<usize, FileFault>
         ensures bound { IfOk result (λ n. n ≤ length into.new) }
-        ensures bytes { IfSome (⟦<SureFiles as Files>⟧.held self.old) (λ held. ReadsFrom (held name.now) at result into.new) }
+        ensures bytes { IfSome (⟦<SureFiles as Files>⟧.held self.old) (λ held.
+            ReadsFrom (held name.now) at result into.new) }
         ensures kept { ⟦<SureFiles as Files>⟧.held self.new ≡ ⟦<SureFiles as Files>⟧.held self.old }
         ensures never_failed { ¬ IsErrOf result FileFault.Failed }
         ensures no_faults { ⟦<SureFiles as Files>⟧.faults self.new ≡ 0 }
-        ensures failed { HasCause (⟦<SureFiles as Files>⟧.faults self.old) (⟦<SureFiles as Files>⟧.faults self.new) (IsErrOf result FileFault.Failed) }
-        ensures missing { HasCause (⟦<SureFiles as Files>⟧.misses self.old) (⟦<SureFiles as Files>⟧.misses self.new) (IsErrOf result FileFault.Missing) }
-        ensures given { ⟦<SureFiles as Files>⟧.given self.new ≡ counted (⟦<SureFiles as Files>⟧.given self.old) (taken result) }
+        ensures failed { HasCause (⟦<SureFiles as Files>⟧.faults self.old) (⟦<SureFiles as Files>⟧.faults self.new)
+            (IsErrOf result FileFault.Failed) }
+        ensures missing { HasCause (⟦<SureFiles as Files>⟧.misses self.old) (⟦<SureFiles as Files>⟧.misses self.new)
+            (IsErrOf result FileFault.Missing) }
+        ensures unfailed { MovesOnlyAt (⟦<SureFiles as Files>⟧.faults self.old) (⟦<SureFiles as Files>⟧.faults self.new)
+            (IsErrOf result FileFault.Failed) }
+        ensures unmissed { MovesOnlyAt (⟦<SureFiles as Files>⟧.misses self.old) (⟦<SureFiles as Files>⟧.misses self.new)
+            (IsErrOf result FileFault.Missing) }
+        ensures given { ⟦<SureFiles as Files>⟧.given self.new
+            ≡ counted (⟦<SureFiles as Files>⟧.given self.old) (taken result) }
     {
         match find_file(&self.files, name) {
             Some(file) => {

@@ -1,14 +1,16 @@
 // Sinks in memory: one that fails at the calls that it is told, and one that fails only where it is full.
-ghost use Rattle.std.specs.Prelude.{◌≡◌, ◌≤◌, ◌<◌, ◌-◌, ◌^◌, ◌↔◌, ◌⊎◌, [], Some, IfOk, IfSome, IsErr, IsTrue, length, min, vec_len, vec_capacity, Contains};
-ghost use Rattle.fz_base.specs.Counts.{HasCause, counted};
+ghost use Rattle.std.specs.Prelude.{◌≡◌, ◌≤◌, ◌<◌, ◌-◌, ◌^◌, ◌↔◌, ◌⊎◌, [], Some, length, min};
+ghost use Rattle.std.specs.Prelude.{IfOk, IfSome, IsErr, IsTrue};
+ghost use Rattle.std.specs.Prelude.{vec_len, vec_capacity, Contains};
+ghost use Rattle.fz_base.specs.Counts.{HasCause, MovesOnlyAt, counted};
 ghost use Rattle.fz_base.specs.Sink.{WritesSome};
 
 use crate::counts::count_up;
 use crate::{Sink, SinkFault};
 use std::alloc::{AllocError, Global};
 
-/// A sink in memory. It takes at most `room` bytes in all and `step` bytes a call, and fails where it is full and at the
-/// calls whose numbers, from 1, are in `fail`.
+/// A sink in memory. It takes at most `room` bytes in all and `step` bytes a call, and fails where it is full and at
+/// the calls whose numbers, from 1, are in `fail`.
 #[derive(Drop)]
 pub struct MemSink {
     bytes: Vec<u8>,
@@ -62,14 +64,19 @@ impl Sink for MemSink {
 
     /// Takes no memory.
     fn write(&mut self, bytes: &[u8]) -> Result<usize, SinkFault>
-        ensures writes { WritesSome (⟦<MemSink as Sink>⟧.written self.old) (⟦<MemSink as Sink>⟧.written self.new) result bytes.now }
+        ensures writes { WritesSome (⟦<MemSink as Sink>⟧.written self.old) (⟦<MemSink as Sink>⟧.written self.new)
+            result bytes.now }
         ensures failed { HasCause (⟦<MemSink as Sink>⟧.faults self.old) (⟦<MemSink as Sink>⟧.faults self.new) (IsErr result) }
+        ensures unfailed { MovesOnlyAt (⟦<MemSink as Sink>⟧.faults self.old) (⟦<MemSink as Sink>⟧.faults self.new)
+            (IsErr result) }
 
         // It takes at most a step and the room that is left, and fails exactly where it is full or was asked to.
         ensures step { IfOk result (λ n. n ≤ step_of self.old) }
-        ensures room { IfSome (⟦<MemSink as Sink>⟧.written self.new) (λ written. length written ≤ room_of self.new) }
+        ensures room { IfSome (⟦<MemSink as Sink>⟧.written self.new)
+            (λ written. length written ≤ room_of self.new) }
         ensures on_request { IfSome (⟦<MemSink as Sink>⟧.written self.old) (λ written. 0 < length bytes.now →
-            IsErr result ↔ ((length written ≡ room_of self.old) ⊎ Contains (failing self.old) (calls_of self.new))) }
+            IsErr result ↔ ((length written ≡ room_of self.old)
+            ⊎ Contains (failing self.old) (calls_of self.new))) }
         ensures calls { calls_of self.new ≡ counted (calls_of self.old) 1 }
         ensures same_room { room_of self.new ≡ room_of self.old }
         ensures same_step { step_of self.new ≡ step_of self.old }
@@ -140,11 +147,15 @@ impl Sink for SureSink {
 
     /// Takes no memory.
     fn write(&mut self, bytes: &[u8]) -> Result<usize, SinkFault>
-        ensures writes { WritesSome (⟦<SureSink as Sink>⟧.written self.old) (⟦<SureSink as Sink>⟧.written self.new) result bytes.now }
+        ensures writes { WritesSome (⟦<SureSink as Sink>⟧.written self.old) (⟦<SureSink as Sink>⟧.written self.new)
+            result bytes.now }
         ensures failed { HasCause (⟦<SureSink as Sink>⟧.faults self.old) (⟦<SureSink as Sink>⟧.faults self.new) (IsErr result) }
+        ensures unfailed { MovesOnlyAt (⟦<SureSink as Sink>⟧.faults self.old) (⟦<SureSink as Sink>⟧.faults self.new)
+            (IsErr result) }
 
         // It fails exactly where no room is left, and its count is above 0 only there.
-        ensures room { IfSome (⟦<SureSink as Sink>⟧.written self.new) (λ written. length written ≤ sure_room self.new) }
+        ensures room { IfSome (⟦<SureSink as Sink>⟧.written self.new)
+            (λ written. length written ≤ sure_room self.new) }
         ensures only_full { IfSome (⟦<SureSink as Sink>⟧.written self.old) (λ written. 0 < length bytes.now →
             IsErr result ↔ (length written ≡ sure_room self.old)) }
         ensures faults_when_full { 0 < ⟦<SureSink as Sink>⟧.faults self.new →

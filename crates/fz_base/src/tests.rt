@@ -1,10 +1,11 @@
-// Reads and writes that fail in the middle, the machine's own files, and the counter.
+// A file that is copied, reads and writes that fail in the middle, the machine's own files, and the counter.
 ghost use Rattle.std.specs.Prelude.{◌≡◌};
 
 use super::*;
 use std::alloc::{AllocError, Global};
-use std::fs;
+use std::fs::{self, Permissions};
 use std::marker::Brand;
+use std::os::unix::fs::PermissionsExt;
 use std::sync::ledger::{Blank, Ledger};
 use std::test::Fail;
 
@@ -12,6 +13,18 @@ fn one_file(alloc: Global, name: &str, bytes: &[u8]) -> Result<Vec<(String, Vec<
     let mut files = Vec::new(alloc);
     files.push((String::from_str(alloc, name)?, bytes.to_vec(alloc)?))?;
     Ok(files)
+}
+
+#[test]
+fn a_file_is_copied(rt: HostRuntime) -> Result<(), Fail> {
+    let alloc = rt.alloc();
+    let mut files = SureFiles::new(one_file(alloc, "greeting", b"hello")?);
+    let mut out = SureSink::new(alloc, 5)?;
+    let bytes = read_whole(alloc, &mut files, "greeting", 100)?;
+    write_whole(&mut out, &bytes)?;
+    assert_eq!(rt; out.bytes(), b"hello".as_slice());
+    assert!(rt; read_whole(alloc, &mut files, "absent", 100).is_err());
+    Ok(())
 }
 
 // Each row: the limit, the number of the call that fails, and the answer.
@@ -39,13 +52,6 @@ fn a_file_is_read_to_its_end_or_refused(rt: HostRuntime) -> Result<(), Fail> {
         };
         assert_eq!(rt; got.as_str(), want, "at limit {limit} and call {call}");
     }
-    let mut files = SureFiles::new(one_file(alloc, "a", b"hello")?);
-    assert!(rt;
-        matches!(
-            read_whole(alloc, &mut files, "b", 9),
-            Err(ReadFault::Missing)
-        )
-    );
     Ok(())
 }
 
@@ -99,6 +105,7 @@ fn a_file_of_the_machine_is_read(rt: HostRuntime) -> Result<(), Fail> {
         ("long", 69_999, "Err(TooLarge)"),
         ("absent", 70_000, "Err(Missing)"),
         (".", 70_000, "Err(Failed)"),
+        ("long/absent", 70_000, "Err(Failed)"),
     ];
     for (name, limit, want) in rows {
         let got = match read_whole(alloc, &mut files, name, limit) {
@@ -110,6 +117,32 @@ fn a_file_of_the_machine_is_read(rt: HostRuntime) -> Result<(), Fail> {
         };
         assert_eq!(rt; got.as_str(), want, "{name} at limit {limit}");
     }
+    Ok(())
+}
+
+// No rights are no absence. Whoever may read every file, as root, reads this one too.
+#[test]
+fn a_file_without_rights_is_not_missing(rt: HostRuntime) -> Result<(), Fail> {
+    fs::write(&rt, "locked", b"hello".as_slice())?;
+    fs::set_permissions(&rt, "locked", Permissions::from_mode(0))?;
+    let want = match fs::open(&rt, "locked") {
+        Ok(_) => Ok(5),
+        Err(_) => Err(FileFault::Failed),
+    };
+    let answer = OsFiles::new(&rt).read_at("locked", 0, &mut [0; 5]);
+    assert!(rt; answer == want, "{answer:?}");
+    Ok(())
+}
+
+#[test]
+fn a_file_that_shrinks_ends_sooner(rt: HostRuntime) -> Result<(), Fail> {
+    fs::write(&rt, "shrinking", b"hello".as_slice())?;
+    let mut files = OsFiles::new(&rt);
+    let first = files.read_at("shrinking", 0, &mut [0; 3]);
+    assert!(rt; first == Ok(3), "{first:?}");
+    fs::write(&rt, "shrinking", b"he".as_slice())?;
+    let second = files.read_at("shrinking", 3, &mut [0; 3]);
+    assert!(rt; second == Ok(0), "{second:?}");
     Ok(())
 }
 

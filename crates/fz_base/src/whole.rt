@@ -2,23 +2,28 @@
 ghost use Rattle.std.specs.Prelude.{◌≡◌, ◌+◌, ◌^◌, ◌≤◌, IfOk, IfErr, IfSome, IsErrOf, IsErr, OnOk, OnErr, vec_len};
 ghost use Rattle.std.specs.Io.KnownBytes.{Appends};
 ghost use Rattle.fz_base.specs.declared.whole.ReadFault.TheVariants.{NoMemory};
-ghost use Rattle.fz_base.specs.Counts.{HasCause, RoseBy, counted};
+ghost use Rattle.fz_base.specs.Counts.{HasCause, MovesOnlyAt, RoseBy, counted};
 ghost use Rattle.fz_base.specs.Sink.{AppendsPart};
 ghost use Rattle.fz_base.specs.Whole.{IsWhole, RefusesWhole};
 
 use crate::{FileFault, Files, Sink, SinkFault};
 use std::alloc::{AllocError, Global};
+use thiserror::Error;
 
 /// Why a file was not read whole.
-#[derive(Clone, Copy, Debug, PartialEq, Eq)]
+#[derive(Clone, Copy, Debug, PartialEq, Eq, Error)]
 pub enum ReadFault {
     /// No file has the name.
+    #[error("no file has this name")]
     Missing,
     /// A read failed.
+    #[error("a read failed")]
     Failed,
     /// The file is longer than the limit.
+    #[error("the file is longer than its limit")]
     TooLarge,
     /// There is not enough memory.
+    #[error("out of memory")]
     NoMemory,
 }
 
@@ -49,14 +54,20 @@ pub fn read_whole<F: Files>(
     limit: u64,
 ) -> Result<Vec<u8>, ReadFault>
     requires { limit ≤ 2 ^ 40 }
-    ensures bytes { IfSome (F.held files.old) (λ held. IfOk result (λ bytes. IsWhole (held name.now) limit bytes.items)) }
-    ensures refused { IfSome (F.held files.old) (λ held. IfErr result (λ fault. RefusesWhole (held name.now) limit fault)) }
+    ensures bytes { IfSome (F.held files.old) (λ held.
+        IfOk result (λ bytes. IsWhole (held name.now) limit bytes.items)) }
+    ensures refused { IfSome (F.held files.old) (λ held.
+        IfErr result (λ fault. RefusesWhole (held name.now) limit fault)) }
     ensures kept { F.held files.new ≡ F.held files.old }
     ensures failed { HasCause (F.faults files.old) (F.faults files.new) (IsErrOf result ReadFault.Failed) }
     ensures missing { HasCause (F.misses files.old) (F.misses files.new) (IsErrOf result ReadFault.Missing) }
+    ensures unfailed { MovesOnlyAt (F.faults files.old) (F.faults files.new) (IsErrOf result ReadFault.Failed) }
+    ensures unmissed { MovesOnlyAt (F.misses files.old) (F.misses files.new) (IsErrOf result ReadFault.Missing) }
     ensures within { IfOk result (λ bytes. vec_len bytes ≤ limit) }
-    ensures given { (F.given files.old ≤ F.given files.new) × (F.given files.new ≤ counted (F.given files.old) (limit + 1)) }
-    ensures too_large { IsErrOf result ReadFault.TooLarge → RoseBy (limit + 1) (F.given files.old) (F.given files.new) }
+    ensures given { (F.given files.old ≤ F.given files.new)
+        × (F.given files.new ≤ counted (F.given files.old) (limit + 1)) }
+    ensures too_large { IsErrOf result ReadFault.TooLarge →
+        RoseBy (limit + 1) (F.given files.old) (F.given files.new) }
 {
     let mut bytes = Vec::new(alloc);
     let mut storage = piece_buffer(alloc)?;
@@ -83,6 +94,7 @@ pub fn write_whole<S: Sink>(sink: &mut S, bytes: &[u8]) -> Result<(), SinkFault>
     ensures written { OnOk result (Appends (S.written sink.old) (S.written sink.new) bytes.now) }
     ensures part { OnErr result (AppendsPart (S.written sink.old) (S.written sink.new) bytes.now) }
     ensures failed { HasCause (S.faults sink.old) (S.faults sink.new) (IsErr result) }
+    ensures unfailed { MovesOnlyAt (S.faults sink.old) (S.faults sink.new) (IsErr result) }
 {
     let mut done = 0;
     'pieces: while done < bytes.len() {

@@ -5,7 +5,8 @@ use Rattle.std.specs.declared.cmp.Ordering.{Ordering}
 use Rattle.std.specs.declared.cmp.Ordering.TheVariants.{Less, Equal}
 use Rattle.std.specs.Ordering.{is_lt, ordering_reverse}
 
--- the order is transitive, it answers the other way round where two keys are exchanged, and only equal keys are equal in it
+-- the order is transitive, it answers the other way round where two keys are exchanged, and only equal keys are equal
+-- in it
 pub record IsKeyOrder {K : Type 0} (order : K → K → Ordering) : Type 0 where
   pub transitive : (a b c : K) → order a b ≡ Less → order b c ≡ Less → order a c ≡ Less
   pub exchanged : (a b : K) → order a b ≡ ordering_reverse (order b a)

@@ -11,7 +11,8 @@ use std::sync::ledger::Ledger;
 /// The place of a key, and `None` where it is not among the keys. It compares at most as often as the number of keys
 /// has binary digits.
 pub fn search<L: Ledger, K: Keys<L>>(keys: &K, key: &K::Key, steps: &mut Steps<L>) -> Option<u64>
-    ensures place { MatchOption result (¬ Contains (K.keys keys.now) (K.meaning key.now)) (λ i. slice_get (K.keys keys.now) i ≡ Some (K.meaning key.now)) }
+    ensures place { MatchOption result (¬ Contains (K.keys keys.now) (K.meaning key.now))
+        (λ i. slice_get (K.keys keys.now) i ≡ Some (K.meaning key.now)) }
     ensures cost { steps.new ≤ steps.old + digits (length (K.keys keys.now)) }
 {
     let mut low = 0;

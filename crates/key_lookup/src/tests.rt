@@ -1,4 +1,4 @@
-// Lists of 0 to 20 odd numbers, with each key, each gap and both ends.
+// A key of a short list, and lists of 0 to 20 odd numbers, with each key, each gap and both ends.
 ghost use Rattle.std.specs.Prelude.{◌≡◌};
 
 use crate::{Numbers, lower_bound, search};
@@ -21,6 +21,15 @@ fn answers<L: Ledger>(
     let below = lower_bound(&numbers, &key, &mut steps);
     let bounded = steps.count().saturating_sub(searched);
     ((place, searched), (below, bounded))
+}
+
+#[test]
+fn a_key_is_found_by_halving(rt: HostRuntime) {
+    let numbers = Numbers::new(&[2, 3, 5, 7]).expect(&rt, "these numbers rise");
+    let ((place, searched), (below, bounded)) = answers::<Brand>(Blank::new(1), numbers, 5);
+    assert_eq!(rt; place, Some(2));
+    assert_eq!(rt; below, 2);
+    assert!(rt; searched <= 3 && bounded <= 3);
 }
 
 #[test]

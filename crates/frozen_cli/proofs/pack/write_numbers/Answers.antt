@@ -2,8 +2,9 @@ use Rattle.std.proofs.Common.{◌≡◌, ◌≤◌, ◌<◌, ◌∙◌, ap, sym,
 use Rattle.std.specs.Prelude.{FitsSigned}
 use Rattle.std.proofs.lemmas.List.{length-replicate, get_or_read}
 use Rattle.frozen_model.specs.Bits.{need_signed, complement}
+use Rattle.frozen_model.proofs.Fields.{length_bits_of}
 use Rattle.frozen_cli.proofs.LayoutLaws.{stride_rest, stride_most, width_within}
-use Rattle.frozen_cli.proofs.PackingLaws.{fits_length, fits_at, length-bits_of, number_passed, range_at, written_first, written_more, written_all}
+use Rattle.frozen_cli.proofs.PackingLaws.{fits_length, fits_at, number_passed, range_at, written_first, written_more, written_all}
 use Rattle.frozen_cli.proofs.pack.write_numbers.Goals as goal
 
 pub loop-index-init : goal.loop-index-init
@@ -70,7 +71,7 @@ loop-index-preserved c =
       len = omega (arith, c.loop-index.invariant.len);
       written = written_more ws xs i c.loop-index.bit w c.complement.result _ _ _ c.loop-index.invariant.written here c.loop-index-test.true width code
           (omega (arith, c.from-bit.ensures))
-          (omega (arith, c.loop-index.invariant.bits, c.loop-index.invariant.len, stride_rest ws i here, width, length-bits_of c.loop-index.content))
+          (omega (arith, c.loop-index.invariant.bits, c.loop-index.invariant.len, stride_rest ws i here, width, length_bits_of c.loop-index.content))
           c.write_bits.ensures;
     }
 

@@ -15,7 +15,7 @@ turns-preserved g c =
       piece = omega (arith, c.turns.invariant.piece, c.read_at.auto.into);
       begun = begun-more _ _ _ c.turns.bytes.items _ _ _ _ c.turns.invariant.kept here c.in_ok-extend_from_slice.ensures.items c.in-Ok.ensures.bound c.turns.invariant.begun c.in-Ok.ensures.bytes;
       kept = cc;
-      faults = omega (arith, c.in-Ok.ensures.failed.later);
-      misses = omega (arith, c.in-Ok.ensures.missing.later);
+      faults = grind (arith, c.in-Ok.ensures.unfailed, c.turns.invariant.faults);
+      misses = grind (arith, c.in-Ok.ensures.unmissed, c.turns.invariant.misses);
       gave = omega (arith, given);
     }

@@ -9,8 +9,8 @@ invariant-turns g l = record {
   piece : 0 < length l.buffer;
   begun : HasBegun (g.F.Files.held l.fn.files) l.name l.bytes.items;
   kept : g.F.Files.held l.files ≡ g.F.Files.held l.fn.files;
-  faults : g.F.Files.faults l.fn.files ≤ g.F.Files.faults l.files;
-  misses : g.F.Files.misses l.fn.files ≤ g.F.Files.misses l.files;
+  faults : g.F.Files.faults l.files ≡ g.F.Files.faults l.fn.files;
+  misses : g.F.Files.misses l.files ≡ g.F.Files.misses l.fn.files;
   gave : g.F.Files.given l.files ≡ counted (g.F.Files.given l.fn.files) (vec_len l.bytes);
 }
 

@@ -3,7 +3,7 @@ use Rattle.idl_profile.specs.Types.{fields_of}
 use Rattle.idl_parse.specs.Parsed.{definition_of}
 use Rattle.frozen_cli.specs.Definition.{field_count}
 use Rattle.frozen_cli.specs.File.{FileOf}
-use Rattle.frozen_cli.proofs.places.file.Goals as goal
+use Rattle.frozen_cli.proofs.stages.file.Goals as goal
 
 -- where nothing is found, no numbers have the bytes as their file
 nothing : {T : Type 0} (n m : ℕ) (found : Option T) (bytes : List ℕ) → n ≡ m → found ≡ None → IfNone found ((xs : List ℤ) → FileOf n bytes xs → ⊥) → (xs : List ℤ) → FileOf m bytes xs → ⊥

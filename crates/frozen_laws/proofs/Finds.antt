@@ -1,7 +1,8 @@
 -- What stands there is what the walk gives.
-use Rattle.std.proofs.Common.{◌≡◌, ℕ, suc, ◌+◌, ◌-◌, ◌*◌, ◌≤◌, ◌<◌, List, [], ◌++◌, Bool, true, false, cond, length, arith, refl, ap, sym, ◌∙◌, subst, replicate, nat_eq, nat_le, take, drop, Result, Ok, Option, Some, None, length-take, length-drop}
+use Rattle.std.proofs.Common.{◌≡◌, ℕ, suc, ◌+◌, ◌-◌, ◌*◌, ◌≤◌, ◌<◌, List, [], ◌++◌, Bool, true, false, cond, length, arith, refl, ap, sym, ◌∙◌, subst, replicate, nat_eq, take, drop, Result, Ok, Option, Some, None, length-take, length-drop}
 use Rattle.std.proofs.Math.ListN.{length-replicate}
 use Rattle.std.proofs.lemmas.List.{replicate-append-replicate}
+use Rattle.std.proofs.lemmas.Bool.{le-leb}
 use Rattle.std.proofs.lemmas.Bool.Decides.{nat_tests}
 use Rattle.std.proofs.lemmas.Str.{is_utf8-from_IsUtf8}
 use Rattle.std.specs.List.{AllByRecursion}
@@ -31,9 +32,6 @@ then_ok r x f s e k = ap (λ q. and_then q f) e ∙ k
 
 pub to_eq : (m n : ℕ) → m ≡ n → nat_eq m n ≡ true
 to_eq m n h = grind (arith, nat_tests)
-
-pub to_le : (m n : ℕ) → m ≤ n → nat_le m n ≡ true
-to_le m n h = grind (arith, nat_tests)
 
 cond_true : {X : Type 0} (b : Bool) (x y s : X) → b ≡ true → x ≡ s → cond b x y ≡ s
 cond_true true x y s h e = e
@@ -132,8 +130,8 @@ module _ (version : Version) (cs : List ℕ) (small : IsBytes cs) where
     walk_finds (bytes {t = s} {d = d} {c = c} {bs = bs} o p w) coded legal keys start key bit next cells kf up past inside room f i t few =
         let again = bytes_again cs bs next small p inside t in
         in_order_goes key bit _ (Bytes bs) (next + length bs) (cells + length bs) (range_goes cs d c (length bs) start bit next (bytes_at cs s next cells) _ (range_is cs d c (length bs) (next - start) bit small room f i)
-        (require_true _ _ _ _ (to_le (cells + length bs) cell_limit few)
-        (require_true _ _ _ _ (to_le (next + length bs) (length cs) again.0)
+        (require_true _ _ _ _ (le-leb (cells + length bs) cell_limit few)
+        (require_true _ _ _ _ (le-leb (next + length bs) (length cs) again.0)
         (require_true _ _ _ _ (spelled_again s bs (take (length bs) (drop next cs)) again.1 w)
         (ap (λ b. Given Value (Bytes b) (next + length bs) (cells + length bs)) again.1))))) up
     walk_finds (items {h = g} {d = d} {c = c} {l = l} {vs = vs} o ri hs) coded legal keys start key bit next cells kf up past inside room f i t few =
@@ -146,8 +144,8 @@ module _ (version : Version) (cs : List ℕ) (small : IsBytes cs) where
         let each = walk_each_finds hs coded legal.2 keys.1 g keys.0 next None (8 * next) nx (cells + n * suc (inline_cells l)) ri (omega arith) room' (omega arith)
         (subst (λ k. HoldsEach l vs k) back f.1) (subst (λ k. Stands (bits_of cs) (8 * next) (images l vs k)) back b.first) b.rest (omega arith) in
         range_goes cs d c n start bit next (items_at cs g (walk cs l next) (stride l) (suc (inline_cells l)) next cells) _ (range_is cs d c n (next - start) bit small room f.0 i)
-        (require_true _ _ _ _ (to_le (cells + n * suc (inline_cells l)) cell_limit (omega arith))
-        (require_true _ _ _ _ (to_le nx (length cs) room')
+        (require_true _ _ _ _ (le-leb (cells + n * suc (inline_cells l)) cell_limit (omega arith))
+        (require_true _ _ _ _ (le-leb nx (length cs) room')
         (require_true _ _ _ _ (to_eq (field cs (8 * next + u) (8 * bytes_for u - u)) 0 b.zeros)
         (then_ok (walk_each g (walk cs l next) (stride l) None n (8 * next) nx (cells + n * suc (inline_cells l))) _ _ _ each (same_result (Items g vs) _ _ _ _ (omega arith) (omega arith))))))
     walk_finds (absent {w = w} {l = l}) coded legal keys start key bit next cells kf up past inside room f i t few =

@@ -2,7 +2,7 @@
 use Rattle.std.proofs.Common.{◌≡◌, ◌↔◌, ℕ, zero, suc, ◌∷◌, ◌+◌, ◌-◌, ◌*◌, ◌≤◌, ◌<◌, List, [], ◌++◌, Bool, true, false, ◌&&◌, length, arith, refl, ap, sym, ◌∙◌, subst, nat_eq, nat_le, take, drop, Result, Ok, Err, None, length-append, length-take, length-drop}
 use Rattle.std.proofs.lemmas.List.{append-nil, take-append-drop, drop-drop, get_or-drop}
 use Rattle.std.proofs.Math.Seq.{take-append_seam, drop-append_seam}
-use Rattle.std.proofs.lemmas.Bool.{and_parts}
+use Rattle.std.proofs.lemmas.Bool.{and_parts, le-leb}
 use Rattle.std.specs.Str.{bytes_eq}
 use Rattle.std.proofs.lemmas.Slice.Eq.{bytes_eq-Decides}
 use Rattle.frozen_model.specs.Bits.{bits_of, field, number}
@@ -20,9 +20,9 @@ use Rattle.frozen_laws.proofs.Cells.{cells_are}
 use Rattle.frozen_laws.proofs.Holding.{fit_at, at_fit}
 use Rattle.frozen_laws.proofs.Lengths.{length_block}
 use Rattle.frozen_laws.proofs.Standing.{stands_in, stands_same, stands_zero}
-use Rattle.frozen_laws.proofs.Reading.{Gives, gives, require_ok, and_then_ok, from_eq, from_le, block_there}
+use Rattle.frozen_laws.proofs.Reading.{WhereOk, is_ok, require_ok, and_then_ok, from_eq, from_le, block_there}
 use Rattle.frozen_laws.proofs.Sound.{walk_reads}
-use Rattle.frozen_laws.proofs.Finds.{require_true, then_ok, to_eq, to_le, block_is, walk_finds}
+use Rattle.frozen_laws.proofs.Finds.{require_true, then_ok, to_eq, block_is, walk_finds}
 
 -- ---- layouts
 
@@ -68,9 +68,9 @@ mutual
 
 -- ---- contents
 
-pub gives_ok : {X : Type 0} {P : X → Type 0} (r : Result X Fault) (x : X) → Gives P r → r ≡ Ok x → P x
-gives_ok {P = P} (Ok y) x (gives h) e = let s : y ≡ x = cc in subst P s h
-gives_ok (Err f) x h e = absurd cc
+pub where_ok : {X : Type 0} {P : X → Type 0} (r : Result X Fault) (x : X) → WhereOk P r → r ≡ Ok x → P x
+where_ok {P = P} (Ok y) x (is_ok h) e = let s : y ≡ x = cc in subst P s h
+where_ok (Err f) x h e = absurd cc
 
 -- bits that stand at the beginning of as many are those
 whole_stands : (b xs : List Bool) → length xs ≡ length b → Stands b 0 xs → b ≡ xs
@@ -88,7 +88,7 @@ pub packed_length : {l : Layout} {v : Value} (bs : List ℕ) → Of l v → Pack
 packed_length bs o packed = omega (arith, length_bits_of bs, length_pack o, ap length packed)
 
 -- what opening a content gives is what the content packs
-pub content_sound : (n : Version) (l : Layout) (bs : List ℕ) → IsLayout n l → IsBytes bs → Gives (λ v. IsContent l v bs) (open_content bs l)
+pub content_sound : (n : Version) (l : Layout) (bs : List ℕ) → IsLayout n l → IsBytes bs → WhereOk (λ v. IsContent l v bs) (open_content bs l)
 content_sound n l bs is small =
     let s = stride l in
     let many : inline_cells l ≤ 4096 = omega (arith, inline_nodes l, is.kind_tree.few) in
@@ -112,7 +112,7 @@ content_sound n l bs is small =
     let tail2 : Stands (bits_of bs) (8 * (0 + bytes_for (1 * s))) (tails l (And v NoValue)) =
     subst (λ r. Stands (bits_of bs) (8 * (0 + bytes_for (1 * s))) r) (sym (append-nil (tail l v))) (subst (λ k. Stands (bits_of bs) k (tail l v)) far px.tail_there) in
     let there : Stands (bits_of bs) 0 (pack l v) = block_there bs 0 1 (more px.of_kind none) refl image2 zeros2 tail2 in
-    gives (record {
+    is_ok (record {
       holds = record { of_kind = px.of_kind; fits = fit_at px.of_kind (bytes_for s) holds };
       within = omega (arith, cells_are px.of_kind, px.grows, px.few (omega arith));
       packed = whole_stands (bits_of bs) (pack l v) (omega (arith, length_pack px.of_kind, length_bits_of bs, px.after)) there;
@@ -137,7 +137,7 @@ content_complete n l v bs is small h =
     let zeros : field bs s (8 * bytes_for s - s) ≡ 0 = subst (λ k. field bs s (8 * bytes_for k - k) ≡ 0) once (subst (λ k. field bs k (8 * bytes_for (1 * s) - 1 * s) ≡ 0) place b.zeros) in
     let fits : HoldsAt l v (bytes_for s - 0) = subst (λ k. HoldsAt l v k) at (at_fit o (bytes_for s) h.holds.fits) in
     let walked = walk_finds n bs small o is.coded is.legal (formed_keys l is.kind_tree.formed) 0 None 0 (bytes_for s) (inline_cells l) tt refl (omega arith) (omega arith) (omega arith) fits image2 tail2 (omega (arith, cells_are o, h.within)) in
-    require_true _ _ _ _ (to_le (bytes_for s) (length bs) (omega arith))
+    require_true _ _ _ _ (le-leb (bytes_for s) (length bs) (omega arith))
     (require_true _ _ _ _ (to_eq (field bs s (8 * bytes_for s - s)) 0 zeros)
     (then_ok (walk bs l 0 None 0 (bytes_for s) (inline_cells l)) _ _ _ walked
     (require_true _ _ _ _ (to_eq (bytes_for s + extent l v) (length bs) (sym long)) refl)))
@@ -210,7 +210,7 @@ module _ {F : Type 0} (Spells : List ℕ → Described → Type 0) (read : List 
       let spelled : Spells (schema_bytes b) d = (exact (schema_bytes b) d (bytes_before n (drop 8 b) behind)).0 (a1.1 ∙ ap Ok pair.0) in
       let found = (layouts (schema_bytes b) d spelled).layout in
       let content : open_content (content_of b) d.tree ≡ Ok v = subst (λ (m : Described). open_content (content_of b) m.tree ≡ Ok v) pair.0 (a2.1 ∙ ap Ok pair.1) in
-      let is = gives_ok (open_content (content_of b) d.tree) v (content_sound d.version d.tree (content_of b) found (bytes_after n (drop 8 b) behind)) content in
+      let is = where_ok (open_content (content_of b) d.tree) v (content_sound d.version d.tree (content_of b) found (bytes_after n (drop 8 b) behind)) content in
       record {
         size = take 4 (drop 4 b);
         schema = schema_bytes b;
@@ -242,8 +242,8 @@ module _ {F : Type 0} (Spells : List ℕ → Described → Type 0) (read : List 
           let small_content : IsBytes h.content = subst IsBytes content_is (bytes_after (schema_length b') (drop 8 b') all) in
           let found = (layouts h.schema d h.spelled).layout in
           let is : IsContent d.tree v h.content = record { holds = h.holds; within = h.within; packed = h.packed } in
-          demand_true _ _ _ _ (both_true _ _ (to_le 8 (length b') (omega arith)) refl)
-          (demand_true _ _ _ _ (to_le (schema_length b') (length b' - 8) (omega arith))
+          demand_true _ _ _ _ (both_true _ _ (le-leb 8 (length b') (omega arith)) refl)
+          (demand_true _ _ _ _ (le-leb (schema_length b') (length b' - 8) (omega arith))
           (answered_ok (read (schema_bytes b')) _ _ d _ (ap read schema_is ∙ (exact h.schema d small_schema).1 h.spelled)
           (answered_ok (open_content (content_of b') d.tree) _ _ v _ (ap (λ c. open_content c d.tree) content_is ∙ content_complete d.version d.tree v h.content found small_content is) refl)))
 

@@ -103,7 +103,7 @@ start_leaf n k c xs h = record { coded = h.0.1; based = h.0.0; most = omega (ari
 pub start_grows : {n : Version} {l : Layout} {v : Value} → IsStart n l v → Grows n l v
 start_grows {n} s = record { of_kind = s.of_kind; leaves = leafwise_map (start_leaf n) (λ w ns h. omega (arith, h.1)) (λ w ns h. omega (arith, h.1)) (with_blank (with_version n s.based s.coded) s.blank) }
 
-first_based : (k : LeafKind) (c : Coded) (xs : List ℤ) → IsCoded Version1 k c → IsBasedOn c xs
+pub first_based : (k : LeafKind) (c : Coded) (xs : List ℤ) → IsCoded Version1 k c → IsBasedOn c xs
 first_based k c xs flag_coded = tt
 first_based k c xs signed_coded = tt
 

@@ -17,21 +17,21 @@ use Rattle.frozen_laws.proofs.Lengths.{length_tail, length_padding}
 use Rattle.frozen_laws.proofs.Standing.{stands_joined, stands_field, bytes_stand, all_bytes, all_take, all_drop}
 
 -- where it is Ok, it has P
-pub data Gives {X : Type 0} (P : X → Type 0) : Result X Fault → Type 0 where
-  gives : {x : X} → P x → Gives P (Ok x)
-  fails : {e : Fault} → Gives P (Err e)
+pub data WhereOk {X : Type 0} (P : X → Type 0) : Result X Fault → Type 0 where
+  is_ok : {x : X} → P x → WhereOk P (Ok x)
+  is_err : {e : Fault} → WhereOk P (Err e)
 
-pub require_ok : {X : Type 0} {P : X → Type 0} (b : Bool) (e : Fault) (r : Result X Fault) → (b ≡ true → Gives P r) → Gives P (require b e r)
+pub require_ok : {X : Type 0} {P : X → Type 0} (b : Bool) (e : Fault) (r : Result X Fault) → (b ≡ true → WhereOk P r) → WhereOk P (require b e r)
 require_ok true e r h = h refl
-require_ok false e r h = fails
+require_ok false e r h = is_err
 
-pub and_then_ok : {X Y : Type 0} {P : X → Type 0} {Q : Y → Type 0} (r : Result X Fault) (f : X → Result Y Fault) → Gives P r → ((x : X) → P x → Gives Q (f x)) → Gives Q (and_then r f)
-and_then_ok (Ok x) f (gives h) k = k x h
-and_then_ok (Err e) f h k = fails
+pub and_then_ok : {X Y : Type 0} {P : X → Type 0} {Q : Y → Type 0} (r : Result X Fault) (f : X → Result Y Fault) → WhereOk P r → ((x : X) → P x → WhereOk Q (f x)) → WhereOk Q (and_then r f)
+and_then_ok (Ok x) f (is_ok h) k = k x h
+and_then_ok (Err e) f h k = is_err
 
-pub cond_gives : {X : Type 0} {P : X → Type 0} (b : Bool) (x y : Result X Fault) → (b ≡ true → Gives P x) → (b ≡ false → Gives P y) → Gives P (cond b x y)
-cond_gives true x y h k = h refl
-cond_gives false x y h k = k refl
+pub cond_ok : {X : Type 0} {P : X → Type 0} (b : Bool) (x y : Result X Fault) → (b ≡ true → WhereOk P x) → (b ≡ false → WhereOk P y) → WhereOk P (cond b x y)
+cond_ok true x y h k = h refl
+cond_ok false x y h k = k refl
 
 pub from_eq : (m n : ℕ) → nat_eq m n ≡ true → m ≡ n
 from_eq m n h = grind (arith, nat_tests)
@@ -103,23 +103,23 @@ key_is (present h) k = absurd k
 key_is (record_of e hs) k = absurd k
 
 -- after the test of order
-pub ordered_reads : (cs : List ℕ) (l : Layout) (start : ℕ) (key : Option Value) (bit next cells : ℕ) → IsKey l → (r : Walked Value) → Gives (Reads cs l start None bit next cells) r
-    → Gives (Reads cs l start key bit next cells) (and_then r (in_order key bit))
+pub ordered_reads : (cs : List ℕ) (l : Layout) (start : ℕ) (key : Option Value) (bit next cells : ℕ) → IsKey l → (r : Walked Value) → WhereOk (Reads cs l start None bit next cells) r
+    → WhereOk (Reads cs l start key bit next cells) (and_then r (in_order key bit))
 ordered_reads cs l start key bit next cells k r g =
     and_then_ok r _ g (λ x px. require_ok (above key x.0) _ _ (λ e.
-    gives (record { of_kind = px.of_kind; holds = px.holds; image_there = px.image_there; tail_there = px.tail_there; after = px.after; inside = px.inside; grows = px.grows; few = px.few; rises = ap (above key) (key_is px.of_kind k) ∙ e })))
+    is_ok (record { of_kind = px.of_kind; holds = px.holds; image_there = px.image_there; tail_there = px.tail_there; after = px.after; inside = px.inside; grows = px.grows; few = px.few; rises = ap (above key) (key_is px.of_kind k) ∙ e })))
 
 pub each_reads : (cs : List ℕ) (g : Holder) (l : Layout) → Keyed g l → (start : ℕ) (step : Option Value → ℕ → ℕ → ℕ → Walked Value)
-    → ((key : Option Value) (bit next cells : ℕ) → KeyFor key l → bit + stride l ≤ 8 * length cs → next ≤ length cs → start ≤ next → Gives (Reads cs l start key bit next cells) (step key bit next cells))
+    → ((key : Option Value) (bit next cells : ℕ) → KeyFor key l → bit + stride l ≤ 8 * length cs → next ≤ length cs → start ≤ next → WhereOk (Reads cs l start key bit next cells) (step key bit next cells))
     → (key : Option Value) (n bit next cells : ℕ) → bit + n * stride l ≤ 8 * length cs → next ≤ length cs → start ≤ next
-    → Gives (ReadsEach cs g l start key bit next cells n) (walk_each g step (stride l) key n bit next cells)
-each_reads cs g l o start step h key zero bit next cells room inside past = gives (record { of_kind = none; many = refl; holds = tt; image_there = tt; tail_there = tt; after = omega arith; inside = inside; grows = omega arith; few = λ h. h; rises = tt })
+    → WhereOk (ReadsEach cs g l start key bit next cells n) (walk_each g step (stride l) key n bit next cells)
+each_reads cs g l o start step h key zero bit next cells room inside past = is_ok (record { of_kind = none; many = refl; holds = tt; image_there = tt; tail_there = tt; after = omega arith; inside = inside; grows = omega arith; few = λ h. h; rises = tt })
 each_reads cs g l o start step h key (suc n) bit next cells room inside past =
     and_then_ok (step (bound g key) bit next cells) _ (h (bound g key) bit next cells (key_for g l o key) (omega arith) inside past) (λ x px.
     and_then_ok (walk_each g step (stride l) (Some (key_of x.0)) n (bit + stride l) x.1 x.2) _ (each_reads cs g l o start step h (Some (key_of x.0)) n (bit + stride l) x.1 x.2 (omega arith) px.inside (omega (arith, px.after))) (λ y py.
     let shift : x.1 - start ≡ (next - start) + extent l x.0 = omega (arith, px.after) in
     let far : 8 * x.1 ≡ 8 * next + 8 * extent l x.0 = omega (arith, px.after) in
-    gives (record {
+    is_ok (record {
       of_kind = more px.of_kind py.of_kind;
       many = ap suc py.many;
       holds = (px.holds, subst (λ k. HoldsEach l y.0 k) shift py.holds);
@@ -152,7 +152,7 @@ spelled Text bs e = IsUtf8-from_is_utf8 bs e
 spelled Binary bs e = tt
 
 bytes_read : (cs : List ℕ) → IsBytes cs → (t : ByteKind) (d c start bit next cells : ℕ) → bit + (d + c) ≤ 8 * length cs → next ≤ length cs
-    → Gives (Reads cs (ByteRange t d c) start None bit next cells) (range_at cs d c start bit next (bytes_at cs t next cells))
+    → WhereOk (Reads cs (ByteRange t d c) start None bit next cells) (range_at cs d c start bit next (bytes_at cs t next cells))
 bytes_read cs small t d c start bit next cells room inside =
     let found = field cs bit d in
     let n = field cs (bit + d) c in
@@ -165,7 +165,7 @@ bytes_read cs small t d c start bit next cells room inside =
     let most : cells + n ≤ cell_limit = from_le (cells + n) cell_limit e2 in
     let last : next + n ≤ length cs = from_le (next + n) (length cs) e3 in
     let long : length part ≡ n = omega (arith, length-take n (drop next cs), length-drop next cs) in
-    gives (record {
+    is_ok (record {
       of_kind = bytes (omega arith) (all_take (λ b. b < 256) n (drop next cs) (all_drop (λ b. b < 256) next cs (all_bytes cs small))) (spelled t part e4);
       holds = subst (λ k. RangeFits d c k (next - start)) (sym long) here.fits;
       image_there = subst (λ k. Stands (bits_of cs) bit (range_bits d c k (next - start))) (sym long) here.there;
@@ -178,7 +178,7 @@ bytes_read cs small t d c start bit next cells room inside =
     })))))
 
 pub bytes_reads : (cs : List ℕ) → IsBytes cs → (t : ByteKind) (d c start : ℕ) (key : Option Value) (bit next cells : ℕ) → bit + (d + c) ≤ 8 * length cs → next ≤ length cs
-    → Gives (Reads cs (ByteRange t d c) start key bit next cells) (walk cs (ByteRange t d c) start key bit next cells)
+    → WhereOk (Reads cs (ByteRange t d c) start key bit next cells) (walk cs (ByteRange t d c) start key bit next cells)
 bytes_reads cs small t d c start key bit next cells room inside = ordered_reads cs (ByteRange t d c) start key bit next cells tt _ (bytes_read cs small t d c start bit next cells room inside)
 
 -- a block that stands there

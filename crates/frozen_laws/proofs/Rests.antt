@@ -13,7 +13,7 @@ use Rattle.frozen_model.specs.Packing.{extent, extents, extent_all, bytes_for, d
 use Rattle.frozen_model.specs.Holding.{Puts, AllPuts, puts_of, Holds, greatest_need, greatest_digits, widened, widened_all, pass, passes, IsStart, Least}
 use Rattle.frozen_laws.specs.Everywhere.{HoldsAt, HoldsEach, HoldsAll}
 use Rattle.frozen_model.proofs.Digits.{digits_within}
-use Rattle.frozen_laws.specs.Laws.{widest_leaf, widest, widest_all, EachDistance, EachDistanceAmong}
+use Rattle.frozen_laws.specs.Laws.{widest_leaf, widest, widest_all, Filled, EachDistance, EachDistanceAmong}
 use Rattle.frozen_laws.proofs.Leafwise.{widened_leaf, widened_chain}
 use Rattle.frozen_laws.proofs.SameKinds.{struct_along, kind_tree_along}
 use Rattle.frozen_laws.proofs.Leaves.{width_with, need_with}
@@ -171,7 +171,7 @@ widest_holds n l v o few =
 
 -- what is below a legal layout is legal
 mutual
-  legal_under : {l m : Layout} → Narrower l m → Legal m → Legal l
+  pub legal_under : {l m : Layout} → Narrower l m → Legal m → Legal l
   legal_under (leaf h) g = omega arith
   legal_under (byte_range h i) g = (omega arith, omega arith)
   legal_under (item_range h i x) g = (omega arith, omega arith, legal_under x g.2)
@@ -207,7 +207,7 @@ rest_is_least n relaxed r l v may root kind_tree s few e =
 
 -- the sum of the widths of the distances
 abbrev mutual
-  distance_widths : Layout → ℕ
+  pub distance_widths : Layout → ℕ
   distance_widths (Leaf k c) = 0
   distance_widths (ByteRange t d c) = d
   distance_widths (ItemRange h d c l) = d + distance_widths l
@@ -236,7 +236,7 @@ mutual
   all_widths_below (field x xs) e = omega (arith, widths_below x e.0, all_widths_below xs e.1)
 
 mutual
-  ranges_same : {A B C D : Type 0} {R : LeafKind → A → C → Type 0} {S T : B → D → Type 0} {l : Tree A B} {m : Tree C D} → Leafwise R S T l m → ranges l ≡ ranges m
+  pub ranges_same : {A B C D : Type 0} {R : LeafKind → A → C → Type 0} {S T : B → D → Type 0} {l : Tree A B} {m : Tree C D} → Leafwise R S T l m → ranges l ≡ ranges m
   ranges_same (leaf h) = refl
   ranges_same (byte_range h i) = refl
   ranges_same (item_range h i x) = omega (arith, ranges_same x)
@@ -247,10 +247,7 @@ mutual
   all_ranges_same no_field = refl
   all_ranges_same (field x xs) = omega (arith, ranges_same x, all_ranges_same xs)
 
--- all but the distances are as wide as their numbers need
-abbrev Filled : Layout → Puts → Type 0
-Filled l p = Leafwise (λ (k : LeafKind) (c : Coded) (xs : List ℤ). greatest_need c xs ≤ width c) (λ (w : ℕ) (ns : List ℕ). Unit {0}) (λ (w : ℕ) (ns : List ℕ). greatest_digits ns ≤ w) l p
-
+-- the same of the fields of a struct
 abbrev AllFilled : Layouts → AllPuts → Type 0
 AllFilled l p = AllLeafwise (λ (k : LeafKind) (c : Coded) (xs : List ℤ). greatest_need c xs ≤ width c) (λ (w : ℕ) (ns : List ℕ). Unit {0}) (λ (w : ℕ) (ns : List ℕ). greatest_digits ns ≤ w) l p
 
@@ -280,7 +277,7 @@ mutual
 
 -- it makes one wider, or changes nothing
 mutual
-  wider_or_same : {l : Layout} {p : Puts} → Filled l p → (distance_widths l < distance_widths (widened l p)) ⊎ (widened l p ≡ l)
+  pub wider_or_same : {l : Layout} {p : Puts} → Filled l p → (distance_widths l < distance_widths (widened l p)) ⊎ (widened l p ≡ l)
   wider_or_same (leaf {k = k} {a = c} {c = xs} h) = inr (ap (Leaf k) (leaf_rests c xs h))
   wider_or_same (byte_range {t = t} {d = d} {c = c} {d' = ds} {c' = cs} h i) = elim (cases_lt d (greatest_digits ds)) [
     | inl lt ↦ inl (omega arith)
@@ -323,11 +320,11 @@ filled {n} g = widened_chain (filled_leaf n) (λ w ms ns h i. tt) (λ w ms ns h 
 
 module _ (n : Version) (l : Layout) (v : Value) (s : IsStart n l v) (few : cells l v ≤ cell_limit) where
   -- a layout that passes reach after the first
-  record Stage (g : Layout) : Type 0 where
-    grows : Grows n g v
-    wider : Narrower l g
-    under : Narrower g (widest n l)
-    full : Filled g (puts_of g v)
+  pub record Stage (g : Layout) : Type 0 where
+    pub grows : Grows n g v
+    pub wider : Narrower l g
+    pub under : Narrower g (widest n l)
+    pub full : Filled g (puts_of g v)
 
   passed : {g : Layout} → Grows n g v → Narrower l g → Narrower g (widest n l) → Stage (pass g v)
   passed g w u = record {
@@ -337,24 +334,30 @@ module _ (n : Version) (l : Layout) (v : Value) (s : IsStart n l v) (few : cells
     full = filled g;
   }
 
-  most_wide : {g : Layout} → Stage g → distance_widths g ≤ 29 * ranges l
+  pub most_wide : {g : Layout} → Stage g → distance_widths g ≤ 29 * ranges l
   most_wide {g} t =
       let cells_are_same : cells l v ≡ cells g v = cells_same s.of_kind t.wider in
       let small = distances_below g v (2 ^ 29) t.grows.of_kind (legal_under t.under (widest_legal n l)) (omega arith) in
       omega (arith, widths_below t.grows.leaves small, ranges_same t.wider)
 
+  -- the first of them, and the next
+  pub first_stage : Stage (pass l v)
+  first_stage = passed (start_grows s) (narrower_same l) (start_under s (widest_alike n l))
+
+  pub next_stage : {g : Layout} → Stage g → Stage (pass g v)
+  next_stage t = passed t.grows t.wider t.under
+
   from_stage : (k : ℕ) (g : Layout) → Stage g → 29 * ranges l ≤ distance_widths g + k → (r : ℕ) × (r ≤ k) × (pass (passes r g v) v ≡ passes r g v)
   from_stage zero g t h = elim (wider_or_same t.full) [
-    | inl lt ↦ absurd (omega (arith, most_wide (passed t.grows t.wider t.under)))
+    | inl lt ↦ absurd (omega (arith, most_wide (next_stage t)))
     | inr same ↦ (0, omega arith, same)
   ]
   from_stage (suc k) g t h = elim (wider_or_same t.full) [
-    | inl lt ↦ (let next = from_stage k (pass g v) (passed t.grows t.wider t.under) (omega arith) in (suc next.0, omega (arith, next.1), next.2))
+    | inl lt ↦ (let next = from_stage k (pass g v) (next_stage t) (omega arith) in (suc next.0, omega (arith, next.1), next.2))
     | inr same ↦ (0, omega arith, same)
   ]
 
   pub passes_rest : (r : ℕ) × (r ≤ 1 + 29 * ranges l) × (pass (passes r l v) v ≡ passes r l v)
   passes_rest =
-      let start = start_grows s in
-      let first = from_stage (29 * ranges l) (pass l v) (passed start (narrower_same l) (start_under s (widest_alike n l))) (omega arith) in
+      let first = from_stage (29 * ranges l) (pass l v) first_stage (omega arith) in
       (suc first.0, omega (arith, first.1), first.2)

@@ -15,7 +15,7 @@ use Rattle.frozen_laws.proofs.Numbers.{thin_below, one_wide, leaf_read}
 use Rattle.frozen_laws.proofs.Unique.{length_image}
 use Rattle.frozen_laws.proofs.Lengths.{length_tail}
 use Rattle.frozen_laws.proofs.Standing.{stands_field, stands_zero}
-use Rattle.frozen_laws.proofs.Reading.{Gives, gives, require_ok, and_then_ok, cond_gives, Reads, ReadsAll, joined, each_reads, range_there, block_there, bytes_reads, KeyFor, key_is, ordered_reads, from_eq, from_ne, from_le}
+use Rattle.frozen_laws.proofs.Reading.{WhereOk, is_ok, require_ok, and_then_ok, cond_ok, Reads, ReadsAll, joined, each_reads, range_there, block_there, bytes_reads, KeyFor, key_is, ordered_reads, from_eq, from_ne, from_le}
 
 only_none : (key : Option Value) (v : Value) → (l : Layout) → KeyFor key l → (IsKeyed l → ⊥) → above key v ≡ true
 only_none None v l k n = refl
@@ -39,9 +39,9 @@ same_first key ids is NoValue e = e
 same_first key ids is (And v vs) e = e
 
 items_reads : (cs : List ℕ) → IsBytes cs → (h : Holder) (d c : ℕ) (l : Layout) (start : ℕ) (key : Option Value) (bit next cells : ℕ) → Keyed h l → KeyFor key (ItemRange h d c l)
-    → ((key' : Option Value) (bit' next' cells' : ℕ) → KeyFor key' l → bit' + stride l ≤ 8 * length cs → next' ≤ length cs → next ≤ next' → Gives (Reads cs l next key' bit' next' cells') (walk cs l next key' bit' next' cells'))
+    → ((key' : Option Value) (bit' next' cells' : ℕ) → KeyFor key' l → bit' + stride l ≤ 8 * length cs → next' ≤ length cs → next ≤ next' → WhereOk (Reads cs l next key' bit' next' cells') (walk cs l next key' bit' next' cells'))
     → bit + (d + c) ≤ 8 * length cs → next ≤ length cs
-    → Gives (Reads cs (ItemRange h d c l) start key bit next cells) (walk cs (ItemRange h d c l) start key bit next cells)
+    → WhereOk (Reads cs (ItemRange h d c l) start key bit next cells) (walk cs (ItemRange h d c l) start key bit next cells)
 items_reads cs small h d c l start key bit next cells o kf ih room inside =
     let found = field cs bit d in
     let n = field cs (bit + d) c in
@@ -59,7 +59,7 @@ items_reads cs small h d c l start key bit next cells o kf ih room inside =
     let many = px.many in
     let sizes : count x.0 * stride l ≡ used = ap (λ k. k * stride l) many in
     let units : count x.0 * suc (inline_cells l) ≡ n * suc (inline_cells l) = ap (λ k. k * suc (inline_cells l)) many in
-    gives (record {
+    is_ok (record {
       of_kind = items (rw many (omega arith)) px.rises px.of_kind;
       holds = (subst (λ k. RangeFits d c k (next - start)) (sym many) here.fits, subst (λ k. HoldsEach l x.0 k) (back ∙ ap bytes_for (sym sizes)) px.holds);
       image_there = subst (λ k. Stands (bits_of cs) bit (range_bits d c k (next - start))) (sym many) here.there;
@@ -86,22 +86,22 @@ clear_reads cs small w l start key bit next cells kf thin room inside unset zero
 module _ (version : Version) (cs : List ℕ) (small : IsBytes cs) where
   mutual
     pub walk_reads : (l : Layout) → OfVersion version l → Legal l → HasKeys l → (start : ℕ) (key : Option Value) (bit next cells : ℕ) → KeyFor key l → bit + stride l ≤ 8 * length cs → next ≤ length cs → start ≤ next
-        → Gives (Reads cs l start key bit next cells) (walk cs l start key bit next cells)
+        → WhereOk (Reads cs l start key bit next cells) (walk cs l start key bit next cells)
     walk_reads (Leaf k c) coded legal keys start key bit next cells kf room inside past =
         let m = field cs bit (width c) in
         require_ok (in_range k (meaning c m)) _ _ (λ e.
         let read = leaf_read m coded legal (field_fits cs bit (width c)) e in
         ordered_reads cs (Leaf k c) start key bit next cells tt (Ok (One (atom_of k (meaning c m)), next, cells))
-        (gives (record { of_kind = one read.of_kind; holds = read.fits; image_there = rw read.back (stands_field cs bit (width c) small room); tail_there = tt; after = omega arith; inside = inside; grows = omega arith; few = λ h. h; rises = refl })))
+        (is_ok (record { of_kind = one read.of_kind; holds = read.fits; image_there = rw read.back (stands_field cs bit (width c) small room); tail_there = tt; after = omega arith; inside = inside; grows = omega arith; few = λ h. h; rises = refl })))
     walk_reads (ByteRange t d c) coded legal keys start key bit next cells kf room inside past = bytes_reads cs small t d c start key bit next cells room inside
     walk_reads (ItemRange h d c l) coded legal keys start key bit next cells kf room inside past =
         items_reads cs small h d c l start key bit next cells keys.0 kf (λ k b n s q r i p. walk_reads l coded legal.2 keys.1 next k b n s q r i p) room inside
     walk_reads (Optional w l) coded legal keys start key bit next cells kf room inside past =
-        cond_gives (nat_eq (field cs bit w) 1) _ _
+        cond_ok (nat_eq (field cs bit w) 1) _ _
         (λ e. and_then_ok (walk cs l start None (bit + w) next cells) _ (walk_reads l coded legal.1 keys start None (bit + w) next cells tt (omega arith) inside past) (λ x px.
         let is : field cs bit w ≡ 1 = from_eq (field cs bit w) 1 e in
         let set : Stands (bits_of cs) bit (bits w 1) = subst (λ k. Stands (bits_of cs) bit (bits w k)) is (stands_field cs bit w small (omega arith)) in
-        gives (record {
+        is_ok (record {
           of_kind = present px.of_kind;
           holds = (one_wide w (subst (λ k. k < 2 ^ w) is (field_fits cs bit w)), px.holds);
           image_there = joined cs bit w _ _ (length-bits w 1) set px.image_there;
@@ -113,21 +113,21 @@ module _ (version : Version) (cs : List ℕ) (small : IsBytes cs) where
           rises = only_none key (Present x.0) (Optional w l) kf (λ k. k);
         })))
         (λ e. require_ok (nat_eq (field cs (bit + w) (stride l)) 0) _ _ (λ z.
-        gives (clear_reads cs small w l start key bit next cells kf legal.0 room inside (from_ne (field cs bit w) 1 e) (from_eq (field cs (bit + w) (stride l)) 0 z))))
+        is_ok (clear_reads cs small w l start key bit next cells kf legal.0 room inside (from_ne (field cs bit w) 1 e) (from_eq (field cs (bit + w) (stride l)) 0 z))))
     walk_reads (Struct ls) coded legal keys start key bit next cells kf room inside past =
         and_then_ok (walk_all cs ls start key bit next cells) _ (walk_all_reads ls coded legal keys start key bit next cells kf room inside past) (λ x px.
-        gives (record { of_kind = record_of refl px.of_kind; holds = px.holds; image_there = px.image_there; tail_there = px.tail_there; after = px.after; inside = px.inside; grows = px.grows; few = px.few; rises = same_first key [] (ids_of ls) x.0 px.rises }))
+        is_ok (record { of_kind = record_of refl px.of_kind; holds = px.holds; image_there = px.image_there; tail_there = px.tail_there; after = px.after; inside = px.inside; grows = px.grows; few = px.few; rises = same_first key [] (ids_of ls) x.0 px.rises }))
 
     pub walk_all_reads : (ls : Layouts) → AllOfVersion version ls → AllLegal ls → AllHaveKeys ls → (start : ℕ) (key : Option Value) (bit next cells : ℕ) → KeyFor key (Struct ls) → bit + strides ls ≤ 8 * length cs → next ≤ length cs → start ≤ next
-        → Gives (ReadsAll cs ls start key bit next cells) (walk_all cs ls start key bit next cells)
+        → WhereOk (ReadsAll cs ls start key bit next cells) (walk_all cs ls start key bit next cells)
     walk_all_reads NoField coded legal keys start key bit next cells kf room inside past =
-        gives (record { of_kind = no_part; holds = tt; image_there = tt; tail_there = tt; after = omega arith; inside = inside; grows = omega arith; few = λ h. h; rises = only_none key Absent (Struct NoField) kf (λ k. k) })
+        is_ok (record { of_kind = no_part; holds = tt; image_there = tt; tail_there = tt; after = omega arith; inside = inside; grows = omega arith; few = λ h. h; rises = only_none key Absent (Struct NoField) kf (λ k. k) })
     walk_all_reads (Field i l ls) coded legal keys start key bit next cells kf room inside past =
         and_then_ok (walk cs l start key bit next cells) _ (walk_reads l coded.0 legal.0 keys.0 start key bit next cells (first_key key i l ls kf) (omega arith) inside past) (λ x px.
         and_then_ok (walk_all cs ls start None (bit + stride l) x.1 x.2) _ (walk_all_reads ls coded.1 legal.1 keys.1 start None (bit + stride l) x.1 x.2 tt (omega arith) px.inside (omega (arith, px.after))) (λ y py.
         let shift : x.1 - start ≡ (next - start) + extent l x.0 = omega (arith, px.after) in
         let far : 8 * x.1 ≡ 8 * next + 8 * extent l x.0 = omega (arith, px.after) in
-        gives (record {
+        is_ok (record {
           of_kind = part px.of_kind py.of_kind;
           holds = (px.holds, subst (λ k. HoldsAll ls y.0 k) shift py.holds);
           image_there = joined cs bit (stride l) _ _ (length_image px.of_kind (next - start)) px.image_there (subst (λ k. Stands (bits_of cs) (bit + stride l) (image_all ls y.0 k)) shift py.image_there);

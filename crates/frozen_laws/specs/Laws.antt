@@ -55,6 +55,11 @@ abbrev pub LeastIsUnique : Type 0
 LeastIsUnique = (d e : Described) (v : Value) → d.version ≡ e.version → Alike d.tree e.tree → Least d v → Least e v
     → d.tree ≡ e.tree
 
+-- all but the distances are as wide as their numbers need
+abbrev pub Filled : Layout → Puts → Type 0
+Filled l p = Leafwise (λ (k : LeafKind) (c : Coded) (xs : List ℤ). greatest_need c xs ≤ width c)
+    (λ (w : ℕ) (ns : List ℕ). Unit {0}) (λ (w : ℕ) (ns : List ℕ). greatest_digits ns ≤ w) l p
+
 -- the widest leaf of a version for a kind; a base is the least number of the kind
 abbrev pub widest_leaf : Version → LeafKind → Coded
 widest_leaf n Flag = Unsigned 1

@@ -1,10 +1,11 @@
 -- The last struct stands at its number.
 use Rattle.std.proofs.Common.{◌≡◌, ℕ, suc, ◌+◌, ◌<◌, ◌≤◌, ◌⊎◌, inl, inr, true, if◌then◌else◌, List, [], ◌∷◌, ◌++◌, length, take, refl, sym, ap, ◌∙◌, arith, length-append}
 use Rattle.std.specs.List.{list_any}
+use Rattle.std.proofs.Math.Seq.{take-length}
 use Rattle.idl_profile.specs.Types as types
 use Rattle.idl_profile.specs.Types.{TypeTree, scalar, flag, named, last_struct, root_of, kind_of}
 use Rattle.idl_profile.specs.declared.kinds.TypeKind.TheVariants as kinds
-use Rattle.idl_profile.specs.Meaning.{Ty, MeantNamed}
+use Rattle.idl_profile.specs.Meaning.{Ty}
 use Rattle.idl_profile.specs.Measures.{at, named_tree, named_of as named_in, trees}
 use Rattle.idl_fields.specs.declared.draft.DraftNamed as draft
 use Rattle.idl_fields.specs.declared.draft.DraftNamed.TheVariants as n
@@ -80,15 +81,11 @@ kind-grown text us ts (n.Struct w fs ∷ xs) s =
 pub root-kind : (text : List ℕ) (us : List Ty) (xs : List draft.DraftNamed) → list_any is_struct xs ≡ true → kind_of (root_of (nameds (trees (nameds_of text us xs)))) ≡ kinds.Struct
 root-kind text us xs e = kind-grown text us [] xs (inr e)
 
-pub take-all : (ns : List MeantNamed) → take (length ns) ns ≡ ns
-take-all [] = refl
-take-all (x ∷ ns) = ap (λ (z : List MeantNamed). x ∷ z) (take-all ns)
-
 pub nameds-length : (text : List ℕ) (us : List Ty) (xs : List draft.DraftNamed) → length (nameds_of text us xs) ≡ length xs
 nameds-length text us [] = refl
 nameds-length text us (x ∷ xs) = ap suc (nameds-length text us xs)
 
 pub root-named : (text : List ℕ) (us : List Ty) (xs : List draft.DraftNamed) (k : ℕ) (p : ℕ) → k ≡ length xs → p ≡ last_place 0 (length xs) xs → at (trees (take k (nameds_of text us xs))) p ≡ root_of (nameds (trees (nameds_of text us xs)))
 root-named text us xs k p e f =
-    let t : take k (nameds_of text us xs) ≡ nameds_of text us xs = ap (λ (z : ℕ). take z (nameds_of text us xs)) (e ∙ sym (nameds-length text us xs)) ∙ take-all (nameds_of text us xs) in
+    let t : take k (nameds_of text us xs) ≡ nameds_of text us xs = ap (λ (z : ℕ). take z (nameds_of text us xs)) (e ∙ sym (nameds-length text us xs)) ∙ take-length (nameds_of text us xs) in
     rw (t, f) (root-is text us xs)

@@ -10,6 +10,7 @@ use Rattle.idl_fields.specs.declared.draft.TypeNode.{TypeNode}
 use Rattle.idl_fields.specs.declared.draft.TypeNode.TheVariants as v
 use Rattle.idl_fields.specs.View.{types_in, named_of, nameds_of}
 use Rattle.idl_parse.specs.declared.definition.Definition.{Definition}
+use Rattle.idl_parse.specs.Drafts.{draft_fields, fields_at}
 use Rattle.idl_parse.specs.Parsed.{meant_of}
 use Rattle.idl_parse.specs.Refs.{visible, Stands, node_tree, element_of, key_of, value_of, fields_in, field_in}
 use Rattle.idl_fields.specs.declared.draft.DraftField as drafted
@@ -162,3 +163,12 @@ pub get-fields : (d : Definition) (k : ℕ) (fs : List drafted.DraftField) (i : 
 get-fields d k [] i z h = absurd (omega arith)
 get-fields d k (x ∷ fs) zero z h = refl
 get-fields d k (x ∷ fs) (suc i) z h = get-fields d k fs i z (omega arith)
+
+-- the fields of the struct that stands at a number
+pub fields-there : (xs ys : List draft.DraftNamed) (j : ℕ) (x : draft.DraftNamed) → xs ≡ ys → j < length xs → x ≡ get_or xs j x → fields_at ys j ≡ draft_fields x
+fields-there xs ys j x e h is = ap (λ (zs : List draft.DraftNamed). fields_at zs j) (sym e) ∙ by xs j h is
+  where
+    by : (xs : List draft.DraftNamed) (j : ℕ) → j < length xs → x ≡ get_or xs j x → fields_at xs j ≡ draft_fields x
+    by [] j h is = absurd (omega arith)
+    by (y ∷ xs) zero h is = ap draft_fields (sym is)
+    by (y ∷ xs) (suc j) h is = by xs j (omega arith) is

@@ -1,10 +1,10 @@
 //! Definitions, and what refers to their types and fields.
 ghost use Rattle.std.specs.Prelude.{◌≡◌, ◌<◌, ◌^◌, true, vec_len, string_bytes};
-ghost use Rattle.std.specs.List.{list_any, list_all};
+ghost use Rattle.std.specs.List.{list_any, list_all, Contains};
 ghost use Rattle.idl_tokens.specs.Tokens.{tokens};
 ghost use Rattle.idl_profile.specs.DefText.{DefTokens};
 ghost use Rattle.idl_fields.specs.View.{types_in, nameds_of};
-ghost use Rattle.idl_parse.specs.Drafts.{is_struct, has_few};
+ghost use Rattle.idl_parse.specs.Drafts.{is_struct, has_few, fields_at};
 
 use idl_fields::TypeNodes;
 use idl_fields::draft::{DraftField, DraftNamed, TypeNode};
@@ -49,7 +49,8 @@ pub struct TypeRef<'a> {
 #[derive(Clone, Copy)]
 pub struct FieldRef<'a> {
     pub(crate) def: &'a Definition,
-    // How many of the enums and structs, from the first on, its type may name.
+    // The number of its struct among the enums and structs. Its type may name those before.
     pub(crate) within: u32,
     pub(crate) field: &'a DraftField,
+    ghost listed: { ∥ Contains (fields_at def.now.named.items within) field.now ∥₁ },
 }

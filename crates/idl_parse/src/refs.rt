@@ -1,12 +1,13 @@
 //! The accessors of types and fields. None takes memory.
 ghost use Rattle.std.specs.Prelude.{◌≡◌, ◌<◌, ◌^◌, ◌⊎◌, List, [], Some, None, length, option_map, slice_get, find, position, IfSome, true, string_bytes};
+ghost use Rattle.std.specs.List.{All, Contains};
 ghost use Rattle.std.specs.Ordering.{int_eq};
 ghost use Rattle.std.specs.Str.{bytes_eq};
 ghost use Rattle.idl_profile.specs.Types.{TypeTree, kind_of, name_of, fields_of, scalar, flag};
 ghost use Rattle.idl_profile.specs.Measures.{tree, at, scalar_tree};
 ghost use Rattle.idl_fields.specs.Nodes.{type_at};
 ghost use Rattle.idl_fields.specs.View.{types_in};
-ghost use Rattle.idl_parse.specs.Drafts.{has_few, has_rising, rising};
+ghost use Rattle.idl_parse.specs.Drafts.{has_few, has_rising, rising, draft_fields, fields_at};
 ghost use Rattle.idl_parse.specs.Refs.{type_of_ref, field_of_ref, default_of_ref, fields_in, visible, Stands, element_of, key_of, value_of};
 
 use crate::definition::{DefaultRef, Definition, FieldRef, TypeRef};
@@ -20,6 +21,7 @@ fn named_at(def: &Definition, within: u32, n: u32) -> Option<&DraftNamed>
     ensures stands { Stands def.now within n (option_map (λ x. x.now) result) }
     ensures few { IfSome result (λ x. has_few x.now ≡ true) }
     ensures rising { IfSome result (λ x. has_rising x.now ≡ true) }
+    ensures listed { IfSome result (λ x. fields_at def.now.named.items n ≡ draft_fields x.now) }
 {
     if n < within {
         match def.named.get(n as usize) {
@@ -69,6 +71,7 @@ fn named_fields<'a>(def: &'a Definition, within: u32, n: u32) -> &'a [DraftField
     ensures fields { fields_in def.now n result.now ≡ fields_of (at (visible def.now within) n) }
     ensures few { length result.now < 2 ^ 32 }
     ensures rising { rising result.now ≡ true }
+    ensures listed { All (Contains (fields_at def.now.named.items n)) result.now }
 {
     match named_at(def, within, n) {
         Some(DraftNamed::Enum(_, _)) => &[],
@@ -161,6 +164,7 @@ impl<'a> TypeRef<'a> {
         ensures fields { fields_in self.entry.def.now result.0 result.1.now ≡ fields_of (type_of_ref self.entry) }
         ensures few { length result.1.now < 2 ^ 32 }
         ensures rising { rising result.1.now ≡ true }
+        ensures listed { All (Contains (fields_at self.entry.def.now.named.items result.0)) result.1.now }
     {
         match self.node {
             TypeNode::Enum(n) => (n, named_fields(self.def, self.within, n)),

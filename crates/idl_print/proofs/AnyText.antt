@@ -3,6 +3,7 @@ use Rattle.std.proofs.Common.{◌≡◌, ℕ, zero, suc, ◌+◌, ◌<◌, ◌�
 use Rattle.std.specs.Prelude.{codes}
 use Rattle.std.specs.List.{fold, flat_map}
 use Rattle.std.specs.Fmt.{signed_decimal}
+use Rattle.std.proofs.lemmas.List.{drop_all}
 use Rattle.std.proofs.lemmas.List.Concat.{flat_map-append}
 use Rattle.idl_profile.specs.Meaning as m
 use Rattle.idl_profile.specs.Types as types
@@ -106,12 +107,6 @@ take-next [] i x h e = absurd (omega arith)
 take-next (y ∷ xs) zero x h e = ap (λ (z : draft.DraftNamed). z ∷ []) (sym e)
 take-next (y ∷ xs) (suc i) x h e = ap (λ (z : List draft.DraftNamed). y ∷ z) (take-next xs i x (omega arith) e)
 
-drop-past : (xs : List draft.DraftNamed) (i : ℕ) → length xs ≤ i → drop i xs ≡ []
-drop-past [] zero h = refl
-drop-past [] (suc i) h = refl
-drop-past (x ∷ xs) zero h = absurd (omega arith)
-drop-past (x ∷ xs) (suc i) h = drop-past xs i (omega arith)
-
 pub still_more : (text : List ℕ) (vs : List m.Ty) (xs : List draft.DraftNamed) (i : ℕ) (x : draft.DraftNamed) (out new goal : List ℕ) → i < length xs → x ≡ get_or xs i x → new ≡ out ++ named_text (nameds_of text vs (take i xs)) (view text vs x) → out ++ still text vs xs i ≡ goal
     → new ++ still text vs xs (i + 1) ≡ goal
 still_more text vs xs i x out new goal lt is e h =
@@ -125,4 +120,4 @@ still_more text vs xs i x out new goal lt is e h =
     rw (k, e) (append_assoc out (named_text (nameds_of text vs (take i xs)) (view text vs x)) (still text vs xs (suc i)) ∙ ap (λ (z : List ℕ). out ++ z) (sym here) ∙ h)
 
 pub still_none : (text : List ℕ) (vs : List m.Ty) (xs : List draft.DraftNamed) (i : ℕ) (out goal : List ℕ) → length xs ≤ i → out ++ still text vs xs i ≡ goal → out ≡ goal
-still_none text vs xs i out goal le h = sym (append-nil out) ∙ ap (λ (zs : List draft.DraftNamed). out ++ written_behind (nameds_of text vs (take i xs)) (nameds_of text vs zs)) (sym (drop-past xs i le)) ∙ h
+still_none text vs xs i out goal le h = sym (append-nil out) ∙ ap (λ (zs : List draft.DraftNamed). out ++ written_behind (nameds_of text vs (take i xs)) (nameds_of text vs zs)) (sym (drop_all i xs le)) ∙ h

@@ -19,8 +19,8 @@ use Rattle.key_order.specs.Neighbours.{HaveOneKey, IsLeastNeighbour}
 use Rattle.key_order.specs.Repeats.{IsRepeat, HasNoRepeat, IsLeastRepeat}
 use Rattle.key_order.proofs.Sorted.{at, place_at, one_key, one_key-same, between, places_rise, rising}
 
-abbrev pub Answers : List (ℕ × Value) → Option Repeat → Type 0
-Answers ks r = MatchOption r (HasNoRepeat ks) (λ r. IsLeastRepeat ks r.first r.second)
+abbrev pub TellsLeastRepeat : List (ℕ × Value) → Option Repeat → Type 0
+TellsLeastRepeat ks r = MatchOption r (HasNoRepeat ks) (λ r. IsLeastRepeat ks r.first r.second)
 
 abbrev Apart : List PlacedKey → Type 0
 Apart es = AllPairs (λ p q. p ≢ q) (places es)
@@ -35,7 +35,7 @@ repeat_moved ks ls f s p r = record {
   before = r.before;
 }
 
-answers_moved : (ks ls : List (ℕ × Value)) (r : Option Repeat) → IsPermutation ks ls → Answers ls r → Answers ks r
+answers_moved : (ks ls : List (ℕ × Value)) (r : Option Repeat) → IsPermutation ks ls → TellsLeastRepeat ls r → TellsLeastRepeat ks r
 answers_moved ks ls None p a = λ f s h. a f s (repeat_moved ks ls f s p h)
 answers_moved ks ls (Some r) p a = record {
   repeats = repeat_moved ls ks r.first r.second (IsPermutation-sym ks ls p) a.repeats;
@@ -115,7 +115,7 @@ module _ (es : List PlacedKey) (up : IsSorted ghosts.cmp es) where
           (j - 1, in_es, one_key es (j - 1) in_es one, ap (λ n. (at es n).place) e ∙ place_j)
       by i j h l same place_i place_j (inr le) = absurd (let rise = places_rise es up j i le h (sym same) in omega (arith, rise, place_i, place_j, r.before))
 
-  answers : (r : Option Repeat) → Apart es → IsLeastNeighbour es (length es) r → Answers (placed es) r
+  answers : (r : Option Repeat) → Apart es → IsLeastNeighbour es (length es) r → TellsLeastRepeat (placed es) r
   answers None apart n = λ f s r. let b = behind f s r in n b.0 b.1 b.2
   answers (Some r) apart n =
       let (k, h, one, is) = n.0 in
@@ -137,7 +137,7 @@ module _ (es : List PlacedKey) (up : IsSorted ghosts.cmp es) where
 -- ---- what the sort leaves
 
 module _ (old new : List PlacedKey) (moved : IsPermutation old new) (up : IsSorted ghosts.cmp new) where
-  pub least_from_neighbours : (r : Option Repeat) → Apart old → IsLeastNeighbour new (length new) r → Answers (placed old) r
+  pub least_from_neighbours : (r : Option Repeat) → Apart old → IsLeastNeighbour new (length new) r → TellsLeastRepeat (placed old) r
   least_from_neighbours r apart n = answers_moved (placed old) (placed new) r (IsPermutation-map (λ (e : PlacedKey). (e.place, value_of e.key)) old new moved) (answers new up r (apart_moved old new moved apart) n)
 
   pub rising_from_neighbours : (r : Option Repeat) → IsLeastNeighbour new (length new) r → AreOneKind (keys old) → IfNone r (AreRising (keys new))

@@ -1,3 +1,4 @@
 pub mod Proper
 pub mod ShortTokens
 pub mod ShortTexts
+pub mod References

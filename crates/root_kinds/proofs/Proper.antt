@@ -103,18 +103,18 @@ module _ (P : List ℕ → Type 0) (literal : (x : List ℕ) → IsLiteral x →
   flag_within = record { accepted = tt; shallow = omega arith; few = omega arith; narrow = omega arith }
 
   -- the trees of the enums and structs before
-  record Trees (before : List m.MeantNamed) (ts : List TypeTree) : Type 0 where
-    long : length ts ≡ length before
-    enums : (n : ℕ) (w : List ℕ) (xs : List types.Member) → slice_get before n ≡ Some (m.enum_of w xs) → at ts n ≡ named (enum_of w xs)
-    structs : (n : ℕ) (w : List ℕ) (fs : List m.MeantField) → slice_get before n ≡ Some (m.struct_of w fs) → (gs : types.Fields) × (at ts n ≡ named (struct_of w gs))
-    all : (n : ℕ) → IsWithin P (at ts n)
+  pub record Trees (before : List m.MeantNamed) (ts : List TypeTree) : Type 0 where
+    pub long : length ts ≡ length before
+    pub enums : (n : ℕ) (w : List ℕ) (xs : List types.Member) → slice_get before n ≡ Some (m.enum_of w xs) → at ts n ≡ named (enum_of w xs)
+    pub structs : (n : ℕ) (w : List ℕ) (fs : List m.MeantField) → slice_get before n ≡ Some (m.struct_of w fs) → (gs : types.Fields) × (at ts n ≡ named (struct_of w gs))
+    pub all : (n : ℕ) → IsWithin P (at ts n)
 
   -- a type behind them
-  record IsTyped (key : Bool) (t : TypeTree) : Type 0 where
-    accepted : IsAccepted P t
-    keyed : key ≡ true → IsKeyType t
+  pub record IsTyped (key : Bool) (t : TypeTree) : Type 0 where
+    pub accepted : IsAccepted P t
+    pub keyed : key ≡ true → IsKeyType t
 
-  base_typed : (key : Bool) (s : _) → IsTyped key (scalar_tree s)
+  pub base_typed : (key : Bool) (s : _) → IsTyped key (scalar_tree s)
   base_typed key k.Flag = record { accepted = tt; keyed = λ e. tt }
   base_typed key k.I8 = record { accepted = tt; keyed = λ e. tt }
   base_typed key k.I16 = record { accepted = tt; keyed = λ e. tt }
@@ -123,7 +123,7 @@ module _ (P : List ℕ → Type 0) (literal : (x : List ℕ) → IsLiteral x →
   base_typed key k.Text = record { accepted = tt; keyed = λ e. tt }
   base_typed key k.Bytes = record { accepted = tt; keyed = λ e. tt }
 
-  typed : (before : List m.MeantNamed) (ts : List TypeTree) → Trees before ts → (key : Bool) (t : m.Ty) → TypeFits before key t → IsTyped key (tree ts t)
+  pub typed : (before : List m.MeantNamed) (ts : List TypeTree) → Trees before ts → (key : Bool) (t : m.Ty) → TypeFits before key t → IsTyped key (tree ts t)
   typed before ts s key (m.scalar x) f = base_typed key x
   typed before ts s key (m.enum n) f =
       record { accepted = (s.all n).accepted; keyed = λ e. subst IsKeyType (sym (s.enums n f.0 f.1 f.2)) tt }
@@ -210,7 +210,7 @@ module _ (P : List ℕ → Type 0) (literal : (x : List ℕ) → IsLiteral x →
     empty_written (m.set x) f h = tt
     empty_written (m.map x y) f h = tt
 
-    default_written : (t : m.Ty) (d : types.Default) → TypeFits before false t → DefaultFits t d → IsWritten P (tree (trees before) t) d
+    pub default_written : (t : m.Ty) (d : types.Default) → TypeFits before false t → DefaultFits t d → IsWritten P (tree (trees before) t) d
     default_written t types.without f h = tt
     default_written t (types.flag_default b) f h = subst (λ u. IsWritten P (tree (trees before) u) (types.flag_default b)) (sym h) tt
     default_written t (types.int_default z) f h = number_written t z f h.0 h.1
@@ -274,13 +274,13 @@ module _ (P : List ℕ → Type 0) (literal : (x : List ℕ) → IsLiteral x →
   trees_pushed : (before : List m.MeantNamed) (n : m.MeantNamed) → trees (before ++ n ∷ []) ≡ trees before ++ named_tree (trees before) n ∷ []
   trees_pushed before n = fold-append (λ ts x. ts ++ named_tree ts x ∷ []) [] before (n ∷ [])
 
-  all_stand : (before ns : List m.MeantNamed) → Trees before (trees before) → AllFit before ns → Trees (before ++ ns) (trees (before ++ ns))
+  pub all_stand : (before ns : List m.MeantNamed) → Trees before (trees before) → AllFit before ns → Trees (before ++ ns) (trees (before ++ ns))
   all_stand before [] s h = subst (λ z. Trees z (trees z)) (sym (append-nil before)) s
   all_stand before (n ∷ ns) s h =
       let next : Trees (before ++ n ∷ []) (trees (before ++ n ∷ [])) = subst (λ z. Trees (before ++ n ∷ []) z) (sym (trees_pushed before n)) (pushed before n s h.0) in
       subst (λ z. Trees z (trees z)) (append_assoc before (n ∷ []) ns) (all_stand (before ++ n ∷ []) ns next h.2)
 
-  none_stand : Trees [] (trees [])
+  pub none_stand : Trees [] (trees [])
   none_stand = record { long = refl; enums = λ i w xs e. absurd cc; structs = λ i w fs e. absurd cc; all = λ i. flag_within }
 
   -- ---- the root

@@ -1,6 +1,6 @@
 use Rattle.idl_parse.specs.Drafts.{has_few, has_rising}
 use Rattle.idl_parse.proofs.HalvingLaws.{all-rise}
-use Rattle.idl_parse.proofs.Standing.{named-some, named-none, named-beyond, all-at}
+use Rattle.idl_parse.proofs.Standing.{named-some, named-none, named-beyond, all-at, fields-there}
 use Rattle.idl_parse.proofs.refs.named_at.Goals as goal
 
 pub returns-else-n-within-clause-stands : goal.returns-else-n-within-clause-stands
@@ -27,3 +27,8 @@ returns-in-Some-clause-rising c =
     let l = c.in-Some.ensures.lookup in
     let h = all-rise c.args.def.now in
     all-at has_rising c.deref.result.now c.args.n c.in-Some.one.now (rw c.deref.ensures.value h) l.3.0 l.1
+
+pub returns-in-Some-clause-listed : goal.returns-in-Some-clause-listed
+returns-in-Some-clause-listed c =
+    let l = c.in-Some.ensures.lookup in
+    fields-there c.deref.result.now c.args.def.now.named.items c.args.n c.in-Some.one.now c.deref.ensures.value l.3.0 l.1

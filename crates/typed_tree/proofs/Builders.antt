@@ -24,7 +24,7 @@ use Rattle.typed_tree.specs.References.{spot_kind}
 use Rattle.typed_tree.specs.Rooms.{room_of, without, greater, HasRoom}
 use Rattle.typed_tree.specs.Spots.{Store, store, linked, all_linked, item_link, pick, pair, by_twos, value_of, values, fits_at}
 use Rattle.typed_tree.specs.Trees.{trees_in, kinds_in, trees, kinds, room, last, but_last, Pushes, Joins, IsAsBefore, joined, joined_spot, joined_kind}
-use Rattle.typed_tree.proofs.Grow.{known-stays, le-test}
+use Rattle.typed_tree.proofs.Grow.{known-stays}
 use Rattle.typed_tree.proofs.Growing.{grows-same}
 use Rattle.typed_tree.proofs.Stack.{below, below-rest-is, rest-is, pick-items, items-fit, trees-front}
 

@@ -14,12 +14,11 @@ use Rattle.type_kinds.specs.Defaults.{default_of, defaults_of, by_need, ids_of_f
 use Rattle.typed_tree.specs.declared.builder.Builder.{Builder}
 use Rattle.typed_tree.specs.declared.room.Room.{Room}
 use Rattle.typed_tree.specs.declared.tree.TreeKind.{TreeKind}
-use Rattle.typed_tree.specs.Filled.{struct_with, default_kind}
+use Rattle.typed_tree.specs.Filled.{natural_ids, struct_with, default_kind}
 use Rattle.typed_tree.specs.Pools.{values_of}
 use Rattle.typed_tree.specs.Rooms.{room_of, without, HasRoom}
 use Rattle.typed_tree.specs.Sizes.{used_by, default_value}
 use Rattle.typed_tree.specs.Trees.{trees, kinds, room, last, but_last, Pushes, Joins}
-use Rattle.typed_tree.proofs.Linked.{ids}
 use Rattle.typed_tree.proofs.Typed.{sum-push, used_of, nodes_used, bytes_used, used-struct}
 
 -- the room of the defaults of the first so many fields
@@ -73,7 +72,7 @@ room-for-struct a b t i is h g = omega (arith, ap (λ (r : Room). r.nodes) (used
 
 -- ---- the struct of the defaults
 
-ids-are : (fs : Fields) → map unsigned_abs (ids (field_list fs)) ≡ ids_of_fields fs
+ids-are : (fs : Fields) → natural_ids (field_list fs) ≡ ids_of_fields fs
 ids-are no_fields = refl
 ids-are (field i w n t d fs) = ap (λ is. unsigned_abs i ∷ is) (ids-are fs)
 

@@ -4,7 +4,7 @@ use Rattle.std.proofs.Common.{◌≡◌, ℕ, zero, suc, ◌+◌, ◌<◌, ◌�
 use Rattle.std.specs.List.{list_all}
 use Rattle.std.proofs.Math.ListN.{get_or-append}
 use Rattle.std.proofs.Math.Seq.{get_or-append_seam}
-use Rattle.std.proofs.lemmas.Bool.{and_parts, and_from, leb-true}
+use Rattle.std.proofs.lemmas.Bool.{and_parts, and_from, le-leb, leb-true}
 use Rattle.std.proofs.lemmas.Bool.Decides.{nat_tests}
 use Rattle.std.proofs.lemmas.List.{take-append-le, drop-append-le}
 use Rattle.frozen_model.specs.Values.{Value, Bytes, Items, Absent, Present, Record, And}
@@ -19,9 +19,6 @@ use Rattle.typed_tree.specs.Pools.{Grows}
 
 pub below-true : (m n : ℕ) → nat_lt m n ≡ true → m < n
 below-true m n e = grind (arith, nat_tests)
-
-pub le-test : (m n : ℕ) → m ≤ n → nat_le m n ≡ true
-le-test m n h = grind (arith, nat_tests)
 
 pub length-known : (st : Store) (vs : List Value) (xs : List Spot) → length (known st vs xs) ≡ length vs + length xs
 length-known st vs [] = omega arith
@@ -50,7 +47,7 @@ module _ (old new : Store) (grows : Grows old new) where
       let p = and_parts (nat_le (r.first + r.count) (length old.links)) (list_all (λ l. nat_lt l.node n) (linked old r)) h in
       let there = leb-true (r.first + r.count) (length old.links) p.0 in
       let more = ap (λ (ls : List Link). length ls) grows.links in
-      and_from _ _ (le-test (r.first + r.count) (length new.links) (omega (arith, there, more, length-append old.links grows.more_links))) (ap (list_all (λ l. nat_lt l.node n)) (linked-stays n r h) ∙ p.1)
+      and_from _ _ (le-leb (r.first + r.count) (length new.links) (omega (arith, there, more, length-append old.links grows.more_links))) (ap (list_all (λ l. nat_lt l.node n)) (linked-stays n r h) ∙ p.1)
 
   part-stays : (at : Span) → has_block old at ≡ true → part new.bytes at ≡ part old.bytes at
   part-stays at h =
@@ -61,7 +58,7 @@ module _ (old new : Store) (grows : Grows old new) where
   block-stays at h =
       let there = leb-true (at.start + at.len) (length old.bytes) h in
       let more = ap (λ (bs : List ℕ). length bs) grows.bytes in
-      le-test (at.start + at.len) (length new.bytes) (omega (arith, there, more, length-append old.bytes grows.more_bytes))
+      le-leb (at.start + at.len) (length new.bytes) (omega (arith, there, more, length-append old.bytes grows.more_bytes))
 
   value-stays : (vs : List Value) (n : ℕ) (x : Spot) → fits_at old n x ≡ true → value_of new vs x ≡ value_of old vs x
   value-stays vs n (s.Flag b) h = refl

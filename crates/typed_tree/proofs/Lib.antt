@@ -9,4 +9,6 @@ pub mod Reading
 pub mod Stack
 pub mod Structs
 pub mod Typed
+pub mod Written
 pub mod Celled
+pub mod Forms

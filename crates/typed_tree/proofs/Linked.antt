@@ -1,8 +1,8 @@
 -- Links to the fields of a struct type, and the struct of them.
 use Rattle.std.proofs.Common.{◌≡◌, ℕ, zero, suc, ◌+◌, ◌<◌, ◌≤◌, List, [], ◌∷◌, ◌++◌, true, ◌&&◌, nat_lt, length, map, get_or, Some, refl, ap, ◌∙◌, arith}
-use Rattle.std.specs.Prelude.{ℤ, pos, zip, unsigned_abs, slice_get}
+use Rattle.std.specs.Prelude.{unsigned_abs, slice_get}
 use Rattle.std.specs.List.{list_all}
-use Rattle.std.proofs.lemmas.Bool.{and_from}
+use Rattle.std.proofs.lemmas.Bool.{and_from, le-leb}
 use Rattle.std.proofs.lemmas.List.{get_or-map}
 use Rattle.std.proofs.lemmas.Option.{slice_get_within, get_or_from_slice_get}
 use Rattle.idl_profile.specs.Types.{TypeTree, scalar, text, bytes, list_of, set_of, map_of, named, enum_of, struct_of, Fields, no_fields, field, DefField, field_list, fields_of, kind_of}
@@ -17,18 +17,15 @@ use Rattle.typed_tree.specs.declared.spot.Link.{Link}
 use Rattle.typed_tree.specs.declared.spot.Run.{Run}
 use Rattle.typed_tree.specs.Spots.{Store, linked, all_linked, ids_rise, pick}
 use Rattle.typed_tree.specs.Fields.{field_link}
-use Rattle.typed_tree.specs.Filled.{links_of, struct_with}
+use Rattle.typed_tree.specs.Filled.{natural_ids, links_of, struct_with}
 use Rattle.typed_tree.specs.Trees.{trees_in}
-use Rattle.typed_tree.proofs.Grow.{le-test}
 use Rattle.typed_tree.proofs.Stack.{below, lt-test}
 use Rattle.typed_tree.proofs.Structs.{below-fields}
 
-abbrev pub ids : List DefField → List ℤ
-ids fs = map (λ f. f.id) fs
-
 -- the id of the field at a place
-pub id-at : (fs : List DefField) (i : ℕ) (f : DefField) → slice_get fs i ≡ Some f → get_or (ids fs) i (pos 0) ≡ f.id
-id-at fs i f e = get_or-map (λ (g : DefField). g.id) fs i f (pos 0) (slice_get_within fs i f e) ∙ ap (λ (g : DefField). g.id) (get_or_from_slice_get fs i f f e)
+pub id-at : (fs : List DefField) (i : ℕ) (f : DefField) → slice_get fs i ≡ Some f → get_or (natural_ids fs) i 0 ≡ unsigned_abs f.id
+id-at fs i f e =
+    get_or-map (λ (g : DefField). unsigned_abs g.id) fs i f 0 (slice_get_within fs i f e) ∙ ap (λ (g : DefField). unsigned_abs g.id) (get_or_from_slice_get fs i f f e)
 
 -- each link of fields whose ids rise from here on is above what is not
 rise-above : (m n : ℕ) (fs : Fields) (ks : List ℕ) → m ≤ n → Rising n (ids_of_fields fs) → list_all (λ (l : Link). nat_lt m l.id) (links_of (field_list fs) ks) ≡ true
@@ -58,14 +55,14 @@ pub type-links-fit : (st : Store) (n : ℕ) (r : Run) (t : TypeTree) (ks : List 
     → all_linked st n r && ids_rise (linked st r) ≡ true
 type-links-fit st n r t ks e f h is ok =
     and_from _ _
-    (and_from _ _ (le-test (r.first + r.count) (length st.links) (omega (arith, e))) (ap (list_all (λ l. nat_lt l.node n)) f ∙ below-fields n (ids (fields_of t)) ks h))
+    (and_from _ _ (le-leb (r.first + r.count) (length st.links) (omega (arith, e))) (ap (list_all (λ l. nat_lt l.node n)) f ∙ below-fields n (natural_ids (fields_of t)) ks h))
     (ap ids_rise f ∙ type-links-rise t ks is ok)
 
 -- the struct of such links
 struct-links : (vs : List Value) (fs : List DefField) (ks : List ℕ) → length fs ≡ length ks → Record (map (λ l. l.id) (links_of fs ks)) (pick vs (links_of fs ks)) ≡ struct_with fs (trees_in vs ks)
-struct-links vs fs ks e = ap (λ is. Record is (pick vs (links_of fs ks))) (ids-are fs ks e) ∙ ap (Record (map unsigned_abs (ids fs))) (values-are fs ks e)
+struct-links vs fs ks e = ap (λ is. Record is (pick vs (links_of fs ks))) (ids-are fs ks e) ∙ ap (Record (natural_ids fs)) (values-are fs ks e)
   where
-    ids-are : (fs : List DefField) (ks : List ℕ) → length fs ≡ length ks → map (λ (l : Link). l.id) (links_of fs ks) ≡ map unsigned_abs (ids fs)
+    ids-are : (fs : List DefField) (ks : List ℕ) → length fs ≡ length ks → map (λ (l : Link). l.id) (links_of fs ks) ≡ natural_ids fs
     ids-are [] ks e = refl
     ids-are (f ∷ fs) [] e = absurd (omega (arith, e))
     ids-are (f ∷ fs) (k ∷ ks) e = ap (λ is. unsigned_abs f.id ∷ is) (ids-are fs ks (omega (arith, e)))

@@ -3,14 +3,9 @@ use Rattle.std.proofs.Common.{◌≡◌, ℕ, zero, suc, ◌+◌, ◌-◌, ◌*�
 use Rattle.std.specs.List.{list_all}
 use Rattle.std.proofs.lemmas.Bool.{and_parts, leb-true}
 use Rattle.std.proofs.lemmas.List.{length-drop, length-take-le}
-use Rattle.std.proofs.lemmas.Bool.Decides.{Decides-int_eq}
 use Rattle.std.proofs.lemmas.Bool.Decides.{nat_tests}
-use Rattle.std.specs.Prelude.{ℤ, pos, negsuc, map, Option, Some, None}
-use Rattle.std.proofs.lemmas.Int.{ints}
-use mir.Val.{SFits, of_z, to_z}
-use mir.Syntax.{w16}
-use lib.Signed.{lt_z}
-use Rattle.std.specs.Ordering.{int_eq, nat_cmp, ordering_index, is_lt}
+use Rattle.std.specs.Prelude.{map, Option, Some, None}
+use Rattle.std.specs.Ordering.{nat_cmp, ordering_index, is_lt}
 use Rattle.std.specs.declared.cmp.Ordering.TheVariants.{Less, Equal, Greater}
 use Rattle.std.specs.List.Sorted.{IsNonDecreasingBy}
 use Rattle.std.proofs.lemmas.List.Sorted.{searchable_from_sorted}
@@ -22,21 +17,17 @@ use Rattle.typed_tree.specs.declared.spot.Run.{Run}
 use Rattle.typed_tree.specs.Spots.{Store, linked, all_linked, pick, pair, by_twos, ids_rise}
 use Rattle.typed_tree.proofs.Grow.{below-true}
 
-abbrev natural_of : ℤ → ℕ
-natural_of (pos n) = n
-natural_of (negsuc n) = n
+ids-same : (m n : ℕ) → m ≡ n → nat_eq m n ≡ true
+ids-same m n e = grind (arith, nat_tests)
 
-ids-same : (x y : ℤ) → x ≡ y → int_eq x y ≡ true
-ids-same x y e = (Decides-int_eq x y).1 e
-
-ids-apart : (m n : ℕ) → (m ≡ n → ⊥) → int_eq (pos m) (pos n) ≡ false
-ids-apart m n h = by (int_eq (pos m) (pos n)) refl
+ids-apart : (m n : ℕ) → (m ≡ n → ⊥) → nat_eq m n ≡ false
+ids-apart m n h = by (nat_eq m n) refl
   where
-    by : (b : Bool) → int_eq (pos m) (pos n) ≡ b → b ≡ false
+    by : (b : Bool) → nat_eq m n ≡ b → b ≡ false
     by false e = refl
-    by true e = let same : pos m ≡ pos n = (Decides-int_eq (pos m) (pos n)).0 e in absurd (h (ap natural_of same))
+    by true e = absurd (h (grind (arith, nat_tests)))
 
-ids-below : (m n : ℕ) → m < n → int_eq (pos m) (pos n) ≡ false
+ids-below : (m n : ℕ) → m < n → nat_eq m n ≡ false
 ids-below m n lt = ids-apart m n (λ e. omega (arith, lt, e))
 
 pub count-pick : (vs : List Value) (ls : List Link) → count (pick vs ls) ≡ length ls
@@ -112,31 +103,21 @@ first-of-rising l k ls i d h lt = by ls i (and_parts (list_all (λ k. nat_lt l.i
 
 -- the field that stands at a place is the one that its id names
 pub field-at : (vs : List Value) (ls : List Link) (i : ℕ) (d : Link) (id : ℕ) → ids_rise ls ≡ true → i < length ls → (get_or ls i d).id ≡ id
-    → find_field (map (λ l. l.id) ls) (pick vs ls) (pos id) ≡ Some (get_or vs (get_or ls i d).node Absent)
+    → find_field (map (λ l. l.id) ls) (pick vs ls) id ≡ Some (get_or vs (get_or ls i d).node Absent)
 field-at vs [] i d id h lt e = absurd (omega arith)
-field-at vs (l ∷ ls) zero d id h lt e = let same : int_eq (pos l.id) (pos id) ≡ true = ids-same (pos l.id) (pos id) (ap pos e) in rw same refl
+field-at vs (l ∷ ls) zero d id h lt e = let same : nat_eq l.id id ≡ true = ids-same l.id id e in rw same refl
 field-at vs (l ∷ ls) (suc i) d id h lt e =
     let low = first-of-rising l d ls i d h (omega arith) in
-    let other : int_eq (pos l.id) (pos id) ≡ false = ids-below l.id id (omega (arith, low, e)) in
+    let other : nat_eq l.id id ≡ false = ids-below l.id id (omega (arith, low, e)) in
     rw other (field-at vs ls i d id (and_parts (list_all (λ k. nat_lt l.id k.id) ls) (ids_rise ls) h).1 (omega arith) e)
 
 -- there is none where no link has the id
 pub field-none : (vs : List Value) (ls : List Link) (id : ℕ) → ((i : ℕ) (d : Link) → i < length ls → (get_or ls i d).id ≡ id → ⊥)
-    → find_field (map (λ l. l.id) ls) (pick vs ls) (pos id) ≡ None
+    → find_field (map (λ l. l.id) ls) (pick vs ls) id ≡ None
 field-none vs [] id h = refl
 field-none vs (l ∷ ls) id h =
-    let other : int_eq (pos l.id) (pos id) ≡ false = ids-apart l.id id (h zero l (omega arith)) in
+    let other : nat_eq l.id id ≡ false = ids-apart l.id id (h zero l (omega arith)) in
     rw other (field-none vs ls id (λ i d lt e. h (suc i) d (omega arith) e))
-
--- no id is below 0
-pub field-negative : (ids : List ℕ) (vs : Values) (n : ℕ) → find_field ids vs (negsuc n) ≡ None
-field-negative [] vs n = refl
-field-negative (i ∷ ids) NoValue n = refl
-field-negative (i ∷ ids) (And v vs) n = field-negative ids vs n
-
-pub field-below : (ids : List ℕ) (vs : Values) (z : ℤ) → SFits w16 z → lt_z (to_z w16 (of_z w16 z)) (pos 0) ≡ true → None ≡ find_field ids vs z
-field-below ids vs (pos n) fits h = absurd (grind (arith, ints))
-field-below ids vs (negsuc n) fits h = sym (field-negative ids vs n)
 
 -- later links have greater ids
 rising-at : (ls : List Link) (i j : ℕ) (d : Link) → ids_rise ls ≡ true → i < j → j < length ls → (get_or ls i d).id < (get_or ls j d).id
@@ -170,5 +151,5 @@ le-or-lt i n = by (nat_lt i n) refl
     by false e = inr (grind (arith, nat_tests))
 
 -- what is found among fields is found among those of the value
-pub same-fields : (ids is : List ℕ) (vs us : Values) (id : ℤ) → ids ≡ is → vs ≡ us → find_field ids vs id ≡ find_field is us id
+pub same-fields : (ids is : List ℕ) (vs us : Values) (id : ℕ) → ids ≡ is → vs ≡ us → find_field ids vs id ≡ find_field is us id
 same-fields ids is vs us id e f = ap (λ js. find_field js vs id) e ∙ ap (λ ws. find_field is ws id) f

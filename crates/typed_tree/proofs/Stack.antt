@@ -3,7 +3,7 @@ use Rattle.std.proofs.Common.{◌≡◌, ℕ, ◌+◌, ◌-◌, ◌<◌, ◌≤�
 use Rattle.std.specs.List.{list_all}
 use Rattle.std.proofs.Math.ListN.{get_or-append}
 use Rattle.std.proofs.Math.Seq.{get_or-append_seam, take-length}
-use Rattle.std.proofs.lemmas.Bool.{and_parts, and_from}
+use Rattle.std.proofs.lemmas.Bool.{and_parts, and_from, le-leb}
 use Rattle.std.proofs.lemmas.Bool.Decides.{nat_tests}
 use Rattle.std.proofs.lemmas.List.{map-append, length-map, take-map, drop-map}
 use Rattle.std.proofs.lemmas.List.Folds.{list_all-append, list_all-map}
@@ -17,7 +17,7 @@ use Rattle.typed_tree.specs.Spots.{Store, linked, all_linked, item_link, pick, v
 use Rattle.typed_tree.specs.Pools.{Grows}
 use Rattle.key_order.specs.InOrder.{row}
 use Rattle.typed_tree.specs.Trees.{trees_in, last, but_last}
-use Rattle.typed_tree.proofs.Grow.{below-true, le-test, length-known, known-more, known-stays}
+use Rattle.typed_tree.proofs.Grow.{below-true, length-known, known-more, known-stays}
 
 -- each number is below this one
 abbrev pub below : ℕ → List ℕ → Type 0
@@ -100,7 +100,7 @@ put-on ts us vs v w e f g = cc
 -- links to trees on the stack are there, and lead below
 pub items-fit : (st : Store) (n : ℕ) (r : Run) (ks : List ℕ) → r.first + r.count ≡ length st.links → linked st r ≡ map item_link ks → below n ks → all_linked st n r ≡ true
 items-fit st n r ks e f h =
-    and_from _ _ (le-test (r.first + r.count) (length st.links) (omega (arith, e))) (ap (list_all (λ l. nat_lt l.node n)) f ∙ list_all-map (λ l. nat_lt l.node n) item_link ks ∙ h)
+    and_from _ _ (le-leb (r.first + r.count) (length st.links) (omega (arith, e))) (ap (list_all (λ l. nat_lt l.node n)) f ∙ list_all-map (λ l. nat_lt l.node n) item_link ks ∙ h)
 
 -- the first trees, where nodes stay
 pub below-cut-is : (xs xs' : List Spot) (ks ks' : List ℕ) (i : ℕ) → below (length xs) ks → xs' ≡ xs → ks' ≡ take i ks → below (length xs') ks'

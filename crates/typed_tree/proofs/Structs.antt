@@ -1,10 +1,11 @@
 -- Links to fields by rising id, and the struct of them.
 use Rattle.std.proofs.Common.{◌≡◌, ◌≢◌, ℕ, zero, suc, ◌+◌, ◌<◌, length, arith, Bool, true, false, ◌&&◌, ◌++◌, take, drop, is_lt, nat_eq, if◌then◌else◌, List, [], ◌∷◌, nat_lt, map, get_or, IsPermutation, refl, sym, ap, subst, ◌∙◌, zero-le, suc-le-suc}
-use Rattle.std.specs.Prelude.{ℤ, pos, negsuc, ◌≤ℤ◌, zip, unsigned_abs}
+use Rattle.std.specs.Prelude.{ℤ, pos, negsuc, zip, FitsSigned}
+use Rattle.std.specs.Int.{w16}
 use Rattle.std.specs.List.{list_all, All, AllByRecursion, AllPairs, IsDistinct}
 use Rattle.std.specs.List.Sorted.{IsSortedByKey}
 use Rattle.std.specs.Ordering.{nat_cmp, int_eq}
-use Rattle.std.proofs.lemmas.Bool.{and_parts, and_from}
+use Rattle.std.proofs.lemmas.Bool.{and_parts, and_from, le-leb}
 use Rattle.std.proofs.lemmas.Bool.Decides.{nat_tests, Decides-int_eq}
 use Rattle.std.proofs.lemmas.Int.{ints}
 use Rattle.std.proofs.Math.Seq.{take-append_seam, drop-append_seam}
@@ -22,9 +23,9 @@ use Rattle.typed_tree.specs.Spots.{Store, linked, all_linked, ids_rise, pick}
 use Rattle.key_order.specs.InOrder.{row}
 use Rattle.base_lists.specs.InOrder.{insert_by, in_order}
 use Rattle.base_lists.proofs.Insertion.{in_order_moves}
-use Rattle.typed_tree.specs.Fields.{record_of, natural, field_link}
+use Rattle.typed_tree.specs.Fields.{record_of, id_number, id_numbers, field_link}
 use Rattle.typed_tree.specs.Trees.{trees_in}
-use Rattle.typed_tree.proofs.Grow.{below-true, le-test}
+use Rattle.typed_tree.proofs.Grow.{below-true}
 use Rattle.typed_tree.proofs.Stack.{below, lt-test}
 
 nat_eq-flips : (x y : ℕ) → nat_eq x y ≡ nat_eq y x
@@ -119,17 +120,17 @@ fields-added links first old new fs at was kept up moved differ =
 pub length-in_order : (ls : List Link) → length (in_order nat_lt id ls) ≡ length ls
 length-in_order ls = length_permutation ls (in_order nat_lt id ls) (in_order_moves nat_lt id ls)
 
-pub length-fields : (ids : List ℤ) (ks : List ℕ) → length ids ≡ length ks → length (map field_link (zip ids ks)) ≡ length ks
+pub length-fields : (ids : List ℕ) (ks : List ℕ) → length ids ≡ length ks → length (map field_link (zip ids ks)) ≡ length ks
 length-fields ids ks e = omega (arith, e, length-map (zip ids ks) field_link, length-zip ids ks)
 
 -- one more link to a field
-pub more-fields : (ids : List ℤ) (ks : List ℕ) (i : ℕ) (l : Link) → length ids ≡ length ks → i < length ks → l ≡ field_link (get_or ids i (pos 0), get_or ks i 0)
+pub more-fields : (ids ks : List ℕ) (i : ℕ) (l : Link) → length ids ≡ length ks → i < length ks → l ≡ field_link (get_or ids i 0, get_or ks i 0)
     → map field_link (take (i + 1) (zip ids ks)) ≡ map field_link (take i (zip ids ks)) ++ l ∷ []
 more-fields ids ks i l e lt is =
     let zs = zip ids ks in
     let there : i < length zs = omega (arith, lt, e, length-zip ids ks) in
-    let at : get_or zs i (pos 0, 0) ≡ (get_or ids i (pos 0), get_or ks i 0) = get_or-zip ids ks i (pos 0, 0) (omega (arith, e)) lt in
-    ap (map field_link) (take_more zs i (pos 0, 0) there) ∙ map_push field_link (take i zs) (get_or zs i (pos 0, 0)) ∙ ap (λ z. map field_link (take i zs) ++ field_link z ∷ []) at ∙ ap (λ z. map field_link (take i zs) ++ z ∷ []) (sym is)
+    let at : get_or zs i (0, 0) ≡ (get_or ids i 0, get_or ks i 0) = get_or-zip ids ks i (0, 0) (omega (arith, e)) lt in
+    ap (map field_link) (take_more zs i (0, 0) there) ∙ map_push field_link (take i zs) (get_or zs i (0, 0)) ∙ ap (λ z. map field_link (take i zs) ++ field_link z ∷ []) at ∙ ap (λ z. map field_link (take i zs) ++ z ∷ []) (sym is)
 
 -- the ids of links in order rise
 rise-from : (ls : List Link) → AreRanked ls → ids_rise ls ≡ true
@@ -143,27 +144,28 @@ rise-from (l ∷ ls) h = and_from _ _ (all ls h.0) (rise-from ls h.1)
 pub in_order-rise : (ls : List Link) → Differ ls → ids_rise (in_order nat_lt id ls) ≡ true
 in_order-rise ls h = rise-from (in_order nat_lt id ls) (ranked-in_order ls h)
 
--- ---- ids that differ, none below 0
+-- ---- ids that differ
 
-links-differ : (ids : List ℤ) (ks : List ℕ) → AllByRecursion (λ id. pos 0 ≤ℤ id) ids → IsDistinct int_eq ids → Differ (map field_link (zip ids ks))
+links-differ : (ids : List ℤ) (ks : List ℕ) → AllByRecursion (FitsSigned w16) ids → IsDistinct int_eq ids → Differ (map field_link (zip (id_numbers ids) ks))
 unfolding IsDistinct
 links-differ [] ks n h = tt
 links-differ (i ∷ ids) [] n h = tt
 links-differ (i ∷ ids) (k ∷ ks) n h =
-    IsDistinct-cons same_id (field_link (i, k)) (map field_link (zip ids ks)) (all ids ks n.1 (IsDistinct-head int_eq i ids h)) (links-differ ids ks n.1 (IsDistinct-tail int_eq i ids h))
+    IsDistinct-cons same_id (field_link (id_number i, k)) (map field_link (zip (id_numbers ids) ks)) (all ids ks n.1 (IsDistinct-head int_eq i ids h)) (links-differ ids ks n.1 (IsDistinct-tail int_eq i ids h))
   where
-    other : (i j : ℤ) → pos 0 ≤ℤ i → pos 0 ≤ℤ j → int_eq i j ≡ false → nat_eq (unsigned_abs i) (unsigned_abs j) ≡ false
+    other : (i j : ℤ) → FitsSigned w16 i → FitsSigned w16 j → int_eq i j ≡ false → nat_eq (id_number i) (id_number j) ≡ false
     other (pos a) (pos b) g h e = grind (arith, ints, nat_tests)
-    other (pos a) (negsuc b) g h e = absurd (grind (arith, ints))
-    other (negsuc a) j g h e = absurd (grind (arith, ints))
+    other (pos a) (negsuc b) g h e = let low = g.sfits in let high = h.sfits in grind (arith, nat_tests)
+    other (negsuc a) (pos b) g h e = let low = h.sfits in let high = g.sfits in grind (arith, nat_tests)
+    other (negsuc a) (negsuc b) g h e = let one = g.sfits in let two = h.sfits in grind (arith, ints, nat_tests)
 
-    all : (js : List ℤ) (ks : List ℕ) → AllByRecursion (λ id. pos 0 ≤ℤ id) js → AllByRecursion (λ j. int_eq i j ≡ false) js → AllByRecursion (λ l. nat_eq (unsigned_abs i) l.id ≡ false) (map field_link (zip js ks))
+    all : (js : List ℤ) (ks : List ℕ) → AllByRecursion (FitsSigned w16) js → AllByRecursion (λ j. int_eq i j ≡ false) js → AllByRecursion (λ l. nat_eq (id_number i) l.id ≡ false) (map field_link (zip (id_numbers js) ks))
     all [] ks m h = tt
     all (j ∷ js) [] m h = tt
     all (j ∷ js) (k ∷ ks) m h = (other i j n.0 m.0 h.0, all js ks m.1 h.1)
 
-pub fields-differ : (ids : List ℤ) (ks : List ℕ) → All (λ id. pos 0 ≤ℤ id) ids → AllPairs (λ i j. i ≢ j) ids → Differ (map field_link (zip ids ks))
-fields-differ ids ks natural differ = links-differ ids ks (recursion_from_All (λ id. pos 0 ≤ℤ id) ids natural) (IsDistinct-from_AllPairs Decides-int_eq ids differ)
+pub fields-differ : (ids : List ℤ) (ks : List ℕ) → All (FitsSigned w16) ids → AllPairs (λ i j. i ≢ j) ids → Differ (map field_link (zip (id_numbers ids) ks))
+fields-differ ids ks in_range differ = links-differ ids ks (recursion_from_All (FitsSigned w16) ids in_range) (IsDistinct-from_AllPairs Decides-int_eq ids differ)
 
 -- ---- what holds of each holds of each in order
 
@@ -200,10 +202,10 @@ order-fields : (vs : List Value) (ls : List Link) → map (field vs) (in_order n
 order-fields vs [] = refl
 order-fields vs (l ∷ ls) = insert-fields vs l (in_order nat_lt id ls) ∙ ap (insert_by nat_lt first (field vs l)) (order-fields vs ls)
 
-links-fields : (vs : List Value) (ids : List ℤ) (ks : List ℕ) → map (field vs) (map field_link (zip ids ks)) ≡ zip (natural ids) (trees_in vs ks)
+links-fields : (vs : List Value) (ids ks : List ℕ) → map (field vs) (map field_link (zip ids ks)) ≡ zip ids (trees_in vs ks)
 links-fields vs [] ks = refl
 links-fields vs (i ∷ ids) [] = refl
-links-fields vs (i ∷ ids) (k ∷ ks) = ap (λ fs. (unsigned_abs i, get_or vs k Absent) ∷ fs) (links-fields vs ids ks)
+links-fields vs (i ∷ ids) (k ∷ ks) = ap (λ fs. (i, get_or vs k Absent) ∷ fs) (links-fields vs ids ks)
 
 record-is : (vs : List Value) (ls : List Link) → Record (map id ls) (pick vs ls) ≡ Record (map first (map (field vs) ls)) (row (map (λ f. f.1) (map (field vs) ls)))
 record-is vs ls = ap (λ is. Record is (pick vs ls)) (ids ls) ∙ ap (Record (map first (map (field vs) ls))) (values ls)
@@ -217,19 +219,19 @@ record-is vs ls = ap (λ is. Record is (pick vs ls)) (ids ls) ∙ ap (Record (ma
     values (l ∷ ls) = ap (And (get_or vs l.node Absent)) (values ls)
 
 -- the struct of links to trees under these ids
-pub pick-fields : (vs : List Value) (ids : List ℤ) (ks : List ℕ) (ls : List Link) → ls ≡ in_order nat_lt id (map field_link (zip ids ks)) → Record (map id ls) (pick vs ls) ≡ record_of (natural ids) (trees_in vs ks)
+pub pick-fields : (vs : List Value) (ids ks : List ℕ) (ls : List Link) → ls ≡ in_order nat_lt id (map field_link (zip ids ks)) → Record (map id ls) (pick vs ls) ≡ record_of ids (trees_in vs ks)
 pick-fields vs ids ks ls e =
     let fields = ap (map (field vs)) e ∙ order-fields vs (map field_link (zip ids ks)) ∙ ap (in_order nat_lt first) (links-fields vs ids ks) in
     record-is vs ls ∙ ap (λ fs. Record (map first fs) (row (map (λ f. f.1) fs))) fields
 
-pub below-fields : (n : ℕ) (ids : List ℤ) (ks : List ℕ) → below n ks → list_all (λ l. nat_lt l.node n) (map field_link (zip ids ks)) ≡ true
+pub below-fields : (n : ℕ) (ids ks : List ℕ) → below n ks → list_all (λ l. nat_lt l.node n) (map field_link (zip ids ks)) ≡ true
 below-fields n [] ks h = refl
 below-fields n (i ∷ ids) [] h = refl
 below-fields n (i ∷ ids) (k ∷ ks) h = let both = and_parts (nat_lt k n) (list_all (λ k. nat_lt k n) ks) h in and_from _ _ both.0 (below-fields n ids ks both.1)
 
 -- such links are there, lead below, and rise
-pub fields-fit : (st : Store) (n : ℕ) (r : Run) (ids : List ℤ) (ks : List ℕ) → r.first + r.count ≡ length st.links → linked st r ≡ in_order nat_lt id (map field_link (zip ids ks)) → below n ks → Differ (map field_link (zip ids ks)) → (all_linked st n r && ids_rise (linked st r)) ≡ true
-fields-fit st n r ids ks e f h differ =
+pub fields-fit : (st : Store) (n : ℕ) (r : Run) (ids ks : List ℕ) → r.first + r.count ≡ length st.links → linked st r ≡ in_order nat_lt id (map field_link (zip ids ks)) → below n ks → ids_rise (linked st r) ≡ true → (all_linked st n r && ids_rise (linked st r)) ≡ true
+fields-fit st n r ids ks e f h rise =
     and_from _ _
-    (and_from _ _ (le-test (r.first + r.count) (length st.links) (omega (arith, e))) (ap (list_all (λ l. nat_lt l.node n)) f ∙ all-order (λ l. nat_lt l.node n) _ (below-fields n ids ks h)))
-    (ap ids_rise f ∙ in_order-rise (map field_link (zip ids ks)) differ)
+    (and_from _ _ (le-leb (r.first + r.count) (length st.links) (omega (arith, e))) (ap (list_all (λ l. nat_lt l.node n)) f ∙ all-order (λ l. nat_lt l.node n) _ (below-fields n ids ks h)))
+    rise

@@ -12,13 +12,11 @@ use Rattle.idl_profile.specs.declared.kinds.TypeKind.TheVariants as kinds
 use Rattle.idl_profile.specs.Types.{TypeTree, scalar, text, bytes, list_of, set_of, map_of, named, Named, enum_of, struct_of, Fields, no_fields, field, DefField, field_list, fields_of, kind_of, Scalar, flag, i8, i16, i32, i64}
 use Rattle.std.specs.Prelude.{Bool}
 use Rattle.frozen_model.specs.Values.{Truth, Number, One, Bytes, inline_cells, inline_cells_all, cells, cells_all}
-use Rattle.type_kinds.specs.Accepted.{IsAccepted, AreAccepted, IsWritten}
-use Rattle.type_kinds.specs.Laws.{Any}
 use Rattle.type_kinds.specs.KindsOf.{kinds_of, kinds_of_fields}
 use Rattle.type_kinds.specs.Defaults.{default_of, defaults_of, by_need, written}
 use Rattle.typed_tree.specs.declared.room.Room.{Room}
 use Rattle.typed_tree.specs.Rooms.{room_of}
-use Rattle.typed_tree.specs.Sizes.{capped, capped_room, field_kinds, used_by, nodes_of, nodes_of_all, bytes_of, bytes_of_all, default_value, cells_of_default, IsAcceptedField}
+use Rattle.typed_tree.specs.Sizes.{capped, capped_room, field_kinds, used_by, nodes_of, nodes_of_all, bytes_of, bytes_of_all, default_value, cells_of_default}
 
 -- a measure that falls from a struct to its fields and from a container to its parts
 abbrev mutual
@@ -150,22 +148,6 @@ used-more t i room next sum f at so_far one is =
     is ∙ ap (λ m. room_of m (capped (room.bytes + next.bytes))) n ∙ ap (room_of (capped (1 + sum_by nodes_used (take (i + 1) fs)))) b
 
 -- ---- the cells of defaults
-
--- each field of an accepted struct is accepted
-accepted-at : (fs : Fields) (i : ℕ) (d : DefField) → AreAccepted Any fs → i < length (field_list fs) → IsAcceptedField (get_or (field_list fs) i d)
-accepted-at no_fields i d h lt = absurd (omega (arith, lt))
-accepted-at (field j w n t e fs) zero d h lt = (h.0, h.1)
-accepted-at (field j w n t e fs) (suc i) d h lt = accepted-at fs i d h.2 (omega (arith, lt))
-
-pub field-accepted : (t : TypeTree) (i : ℕ) (f : DefField) → IsAccepted Any t → slice_get (fields_of t) i ≡ Some f → IsAcceptedField f
-field-accepted (named (struct_of w fs)) i f h e = subst IsAcceptedField (get_or_from_slice_get (field_list fs) i f f e) (accepted-at fs i f h.2 (slice_get_within (field_list fs) i f e))
-field-accepted (named (enum_of w ms)) i f h e = absurd (omega (arith, slice_get_within [] i f e))
-field-accepted (scalar s) i f h e = absurd (omega (arith, slice_get_within [] i f e))
-field-accepted text i f h e = absurd (omega (arith, slice_get_within [] i f e))
-field-accepted bytes i f h e = absurd (omega (arith, slice_get_within [] i f e))
-field-accepted (list_of x) i f h e = absurd (omega (arith, slice_get_within [] i f e))
-field-accepted (set_of x) i f h e = absurd (omega (arith, slice_get_within [] i f e))
-field-accepted (map_of x y) i f h e = absurd (omega (arith, slice_get_within [] i f e))
 
 cells-sum : (fs : Fields) → cells_all (kinds_of_fields fs) (defaults_of fs) ≡ sum_by cells_of_default (field_list fs)
 cells-sum no_fields = refl

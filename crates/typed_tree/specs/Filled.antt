@@ -10,15 +10,19 @@ use Rattle.key_order.specs.InOrder.{row}
 use Rattle.typed_tree.specs.declared.spot.Link.{Link}
 use Rattle.typed_tree.specs.declared.tree.TreeKind.{TreeKind}
 use Rattle.typed_tree.specs.declared.tree.TreeKind.TheVariants as k
-use Rattle.typed_tree.specs.Fields.{field_link, natural}
+use Rattle.typed_tree.specs.Fields.{field_link}
+
+-- the ids of these fields of a definition, which are from 1 on
+abbrev pub natural_ids : List DefField → List ℕ
+natural_ids fs = map (λ f. unsigned_abs f.id) fs
 
 -- links to nodes under the ids of these fields
 abbrev pub links_of : List DefField → List ℕ → List Link
-links_of fs nodes = map field_link (zip (map (λ f. f.id) fs) nodes)
+links_of fs nodes = map field_link (zip (natural_ids fs) nodes)
 
 -- the struct of these fields with these values
 abbrev pub struct_with : List DefField → List Value → Value
-struct_with fs vs = Record (natural (map (λ f. f.id) fs)) (row vs)
+struct_with fs vs = Record (natural_ids fs) (row vs)
 
 -- as what a value of a type of this kind is made
 abbrev pub made_as : TypeKind → TreeKind

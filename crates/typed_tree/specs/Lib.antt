@@ -9,3 +9,4 @@ pub mod Tables
 pub mod Sizes
 pub mod Ranges
 pub mod Filled
+pub mod Heights

@@ -1,9 +1,9 @@
 -- The parts of values.
-use Rattle.std.specs.Prelude.{◌≡◌, ℕ, ℤ, pos, List, [], ◌∷◌, if◌then◌else◌, Option, Some, None}
-use Rattle.std.specs.Ordering.{int_eq}
+use Rattle.std.specs.Prelude.{◌≡◌, ℕ, ℤ, List, [], ◌∷◌, if◌then◌else◌, Option, Some, None, nat_eq}
 use Rattle.std.specs.Str.{IsUtf8}
 use Rattle.frozen_model.specs.Trees.{AList, ASet, AMap}
 use Rattle.frozen_model.specs.Values.{Truth, Number, Value, One, Bytes, Items, Present, Record, Values, NoValue, And}
+use Rattle.typed_tree.specs.Fields.{id_number}
 use Rattle.typed_tree.specs.Spots.{pair}
 
 abbrev pub IsFlag : Value → Type 0
@@ -73,10 +73,10 @@ fields_of (Record ids vs) = vs
 fields_of _ = NoValue
 
 -- the first of the values whose id this is
-abbrev pub find_field : List ℕ → Values → ℤ → Option Value
-find_field (i ∷ ids) (And v vs) id = if int_eq (pos i) id then Some v else find_field ids vs id
+abbrev pub find_field : List ℕ → Values → ℕ → Option Value
+find_field (i ∷ ids) (And v vs) id = if nat_eq i id then Some v else find_field ids vs id
 find_field _ _ id = None
 
--- the field of a struct with an id
+-- the field of a struct with an id of 16 bits
 abbrev pub field_of : Value → ℤ → Option Value
-field_of v id = find_field (ids_of v) (fields_of v) id
+field_of v id = find_field (ids_of v) (fields_of v) (id_number id)

@@ -7,9 +7,7 @@ use Rattle.frozen_model.specs.Trees as tree
 use Rattle.frozen_model.specs.Trees.{KindTree, AList, ASet, AMap}
 use Rattle.frozen_model.specs.Values.{Value, Values, One, Bytes, Items, Absent, Present, Record, NoValue, And, cells}
 use Rattle.type_kinds.specs.KindsOf.{kinds_of}
-use Rattle.type_kinds.specs.Accepted.{IsAccepted, IsWritten}
 use Rattle.type_kinds.specs.Defaults.{default_field}
-use Rattle.type_kinds.specs.Laws.{Any}
 use Rattle.typed_tree.specs.declared.room.Room.{Room}
 use Rattle.typed_tree.specs.Rooms.{room_of}
 
@@ -79,7 +77,3 @@ default_value f = default_field f.need f.type f.default
 -- the cells of that
 abbrev pub cells_of_default : DefField → ℕ
 cells_of_default f = cells (field_kinds f.need f.type) (default_value f)
-
--- a field of an accepted type, whose written default is one that the type may have
-abbrev pub IsAcceptedField : DefField → Type 0
-IsAcceptedField f = IsAccepted Any f.type × IsWritten Any f.type f.default

@@ -3,11 +3,9 @@
 ghost use Rattle.std.specs.Prelude.{◌≡◌, IfOk};
 ghost use Rattle.idl_profile.specs.Types.{kind_of};
 ghost use Rattle.idl_parse.specs.Refs.{type_of_ref, field_of_ref};
-ghost use Rattle.type_kinds.specs.Accepted.{IsAccepted};
 ghost use Rattle.type_kinds.specs.Defaults.{default_of as own_default};
-ghost use Rattle.type_kinds.specs.Laws.{Any};
 ghost use Rattle.typed_tree.specs.References.{value_of_tree, kind_of_tree};
-ghost use Rattle.typed_tree.specs.Sizes.{default_value, IsAcceptedField};
+ghost use Rattle.typed_tree.specs.Sizes.{default_value};
 ghost use Rattle.typed_tree.specs.Filled.{default_kind, made_as};
 
 use crate::builder::Builder;
@@ -32,7 +30,6 @@ impl Builder {
     /// its type has of itself: false, zero, empty, or the struct of its fields' defaults. It uses what `default_room`
     /// tells, and goes as deep as the type.
     pub fn fill(&mut self, field: FieldRef<'_>) -> Result<(), AllocError>
-        requires { IsAcceptedField (field_of_ref field) }
         ensures pushed { let f = field_of_ref field.entry in
             OnOk result (Pushes self.old self.new (default_value f) (default_kind f) (used_by (default_value f))) }
         ensures failed { OnErr result (IsAsBefore self.old self.new) }
@@ -46,8 +43,7 @@ impl Builder {
     // Puts the default of a field, where there is room for it.
     #[cycle(fill)]
     fn put_default(&mut self, field: FieldRef<'_>)
-        requires accepted { IsAcceptedField (field_of_ref field) }
-        requires room { HasRoom self.old.room (used_by (default_value (field_of_ref field))) }
+        requires { HasRoom self.old.room (used_by (default_value (field_of_ref field))) }
         ensures { let f = field_of_ref field.entry in
             Pushes self.old self.new (default_value f) (default_kind f) (used_by (default_value f)) }
     {
@@ -61,8 +57,7 @@ impl Builder {
     // Puts a written default, and else the type's own, where there is room for it.
     #[cycle(fill)]
     fn put_written(&mut self, field: FieldRef<'_>)
-        requires accepted { IsAcceptedField (field_of_ref field) }
-        requires room { let f = field_of_ref field in
+        requires { let f = field_of_ref field in
             HasRoom self.old.room (used_by (written f.default (own_default f.type))) }
         ensures { let f = field_of_ref field.entry in let v = written f.default (own_default f.type) in
             Pushes self.old self.new v (made_as (kind_of f.type)) (used_by v) }
@@ -82,8 +77,7 @@ impl Builder {
     // Puts what a type has of itself, where there is room for it.
     #[cycle(fill)]
     fn put_own_default(&mut self, ty: TypeRef<'_>)
-        requires accepted { IsAccepted Any (type_of_ref ty) }
-        requires room { HasRoom self.old.room (used_by (own_default (type_of_ref ty))) }
+        requires { HasRoom self.old.room (used_by (own_default (type_of_ref ty))) }
         ensures { let t = type_of_ref ty.entry in
             Pushes self.old self.new (own_default t) (made_as (kind_of t)) (used_by (own_default t)) }
     {
@@ -107,7 +101,6 @@ impl Builder {
     #[cycle(fill)]
     fn put_struct(&mut self, ty: TypeRef<'_>)
         requires kind { kind_of (type_of_ref ty) ≡ TypeKind.Struct }
-        requires accepted { IsAccepted Any (type_of_ref ty) }
         requires room { HasRoom self.old.room (used_by (own_default (type_of_ref ty))) }
         ensures { let t = type_of_ref ty.entry in
             Pushes self.old self.new (own_default t) made.Struct (used_by (own_default t)) }
@@ -131,7 +124,6 @@ impl Builder {
     // Joins the trees from a place on the stack on as the fields of a struct, where there is room for it.
     fn join_fields(&mut self, base: usize, ty: TypeRef<'_>)
         requires kind { kind_of (type_of_ref ty) ≡ TypeKind.Struct }
-        requires accepted { IsAccepted Any (type_of_ref ty) }
         requires room { 0 < self.old.room.nodes }
         requires as_many { base + length (fields_of (type_of_ref ty)) ≡ length self.old.stack.items }
         ensures { let fs = fields_of (type_of_ref ty.entry) in
@@ -145,7 +137,6 @@ impl Builder {
 
 /// What the field has that nobody gave, as a tree.
 pub fn default_field(alloc: Global, field: FieldRef<'_>) -> Result<Tree, AllocError>
-    requires { IsAcceptedField (field_of_ref field) }
     ensures value { IfOk result (λ t. value_of_tree t ≡ default_value (field_of_ref field.entry)) }
     ensures kind { IfOk result (λ t. kind_of_tree t ≡ default_kind (field_of_ref field.entry)) }
 {
@@ -156,7 +147,6 @@ pub fn default_field(alloc: Global, field: FieldRef<'_>) -> Result<Tree, AllocEr
 
 /// What the type has of itself, as a tree: false, zero, empty, or the struct of its fields' defaults.
 pub fn default_of(alloc: Global, ty: TypeRef<'_>) -> Result<Tree, AllocError>
-    requires { IsAccepted Any (type_of_ref ty) }
     ensures value { IfOk result (λ t. value_of_tree t ≡ own_default (type_of_ref ty.entry)) }
     ensures kind { IfOk result (λ t. kind_of_tree t ≡ made_as (kind_of (type_of_ref ty.entry))) }
 {

@@ -35,12 +35,12 @@ fn replace_from(stack: &mut Vec<u32>, base: usize, nodes: &[u32])
 }
 
 impl Builder {
-    ghost use Rattle.std.specs.Prelude.{◌≢◌, true, ◌<◌, ◌-◌, ◌*◌, ◌≤ℤ◌, pos, IsOk, IfOk, OnOk, OnErr, All, AllPairs};
+    ghost use Rattle.std.specs.Prelude.{◌≢◌, true, ◌<◌, ◌-◌, ◌*◌, IsOk, IfOk, OnOk, OnErr, AllPairs};
     ghost use Rattle.std.specs.Prelude.{map, drop, nat_lt, slice_index_or};
     ghost use Rattle.std.specs.List.{list_all};
     ghost use Rattle.frozen_model.specs.Trees.{AList, ASet, AMap};
     ghost use Rattle.frozen_model.specs.Values.{Items, Present, key_of, Absent};
-    ghost use Rattle.typed_tree.specs.Fields.{natural, record_of};
+    ghost use Rattle.typed_tree.specs.Fields.{id_numbers, record_of};
     ghost use Rattle.typed_tree.specs.Pools.{store_of, values_of};
     ghost use Rattle.typed_tree.specs.Parts.{pairs};
     ghost use Rattle.typed_tree.specs.declared.tree.TreeKind.TheVariants as made;
@@ -154,14 +154,13 @@ impl Builder {
         Ok(())
     }
 
-    /// Puts a struct of the last trees, the k-th of them under the k-th id. The ids differ, none is below 0, and they
-    /// may stand in any order. It uses one node.
+    /// Puts a struct of the last trees, the k-th of them under the k-th id. The ids differ, and may stand in any order.
+    /// The fields stand by rising id, where one below 0 counts as 65,536 more. It uses one node.
     pub fn structure(&mut self, ids: &[i16]) -> Result<(), AllocError>
-        requires natural { All (λ id. pos 0 ≤ℤ id) ids.now }
         requires differ { AllPairs (λ i j. i ≢ j) ids.now }
         requires there { length ids.now ≤ length (trees self.old) }
         ensures joined { OnOk result (Joins self.old self.new (length ids.now)
-            (record_of (natural ids.now) (last (length ids.now) (trees self.old))) made.Struct (room_of 1 0)) }
+            (record_of (id_numbers ids.now) (last (length ids.now) (trees self.old))) made.Struct (room_of 1 0)) }
         ensures failed { OnErr result (IsAsBefore self.old self.new) }
         ensures enough { HasRoom (room self.old) (room_of 1 0) → IsOk result }
     {

@@ -34,10 +34,10 @@ fn append(region: &mut Region, x: &[u8]) -> Block
 }
 
 impl Pool {
-    ghost use Rattle.std.specs.Prelude.{◌<◌, ◌^◌, ◌∷◌, [], IfOk, OnOk, OnErr, map, zip, All, AllPairs, ◌≢◌, ◌≤ℤ◌};
-    ghost use Rattle.std.specs.Prelude.{pos, vec_len, vec_capacity, nat_lt};
-    ghost use Rattle.typed_tree.specs.Spots.{fits_at, part, linked, item_link};
-    ghost use Rattle.typed_tree.specs.Fields.{field_link};
+    ghost use Rattle.std.specs.Prelude.{◌<◌, ◌^◌, ◌∷◌, [], IfOk, OnOk, OnErr, map, zip, AllPairs, ◌≢◌};
+    ghost use Rattle.std.specs.Prelude.{vec_len, vec_capacity, nat_lt};
+    ghost use Rattle.typed_tree.specs.Spots.{fits_at, part, linked, item_link, ids_rise};
+    ghost use Rattle.typed_tree.specs.Fields.{field_link, id_numbers};
     ghost use Rattle.base_lists.specs.InOrder.{in_order};
     ghost use Rattle.typed_tree.specs.Pools.{store_of, Grows, IsEmpty, SameNodes, SameStore};
 
@@ -153,7 +153,6 @@ impl Pool {
     /// Adds links to nodes under these ids, where room was made for them, by rising id, and says where they stand.
     pub fn add_fields(&mut self, ids: &[i16], nodes: &[u32]) -> Run
         requires as_many { length ids.now ≡ length nodes.now }
-        requires natural { All (λ id. pos 0 ≤ℤ id) ids.now }
         requires differ { AllPairs (λ i j. i ≢ j) ids.now }
         requires room { vec_len self.old.links + length nodes.now ≤ vec_capacity self.old.links }
         requires few { vec_len self.old.links + length nodes.now < 2 ^ 32 }
@@ -164,7 +163,8 @@ impl Pool {
         ensures grows { Grows (store_of self.old) (store_of self.new) }
         ensures inside { result.first + result.count ≡ length (store_of self.new).links }
         ensures added { linked (store_of self.new) result
-            ≡ in_order nat_lt (λ l. l.id) (map field_link (zip ids.now nodes.now)) }
+            ≡ in_order nat_lt (λ l. l.id) (map field_link (zip (id_numbers ids.now) nodes.now)) }
+        ensures rise { ids_rise (linked (store_of self.new) result) ≡ true }
     {
         let first = self.links.len();
         push_fields(&mut self.links, ids, nodes);

@@ -1,11 +1,11 @@
 //! The accessors of trees. None takes memory, and none walks more than the node that it reads.
-ghost use Rattle.std.specs.Prelude.{◌≡◌, ◌↔◌, ◌<◌, ◌≤◌, ◌+◌, ◌^◌, length, map, true, pos, IsTrue, nat_lt, option_map};
+ghost use Rattle.std.specs.Prelude.{◌≡◌, ◌↔◌, ◌<◌, ◌≤◌, ◌+◌, ◌^◌, length, map, true, IsTrue, nat_lt, option_map};
 ghost use Rattle.std.specs.List.{list_all};
 ghost use Rattle.std.specs.Str.{is_utf8};
 ghost use Rattle.frozen_model.specs.Values.{Truth, Number, One, Bytes, Present, NoValue, count, nth, key_less};
 ghost use Rattle.key_order.specs.Keys.{value_of as key_value, IsOneKind};
 ghost use Rattle.typed_tree.specs.Parts.{IsFlag, IsInt, IsText, IsBytes, IsRow, IsMap, IsItems, IsRecord, IsPresent};
-ghost use Rattle.typed_tree.specs.Parts.{items_of, ids_of, fields_of, field_of};
+ghost use Rattle.typed_tree.specs.Parts.{items_of, ids_of, fields_of, field_of, find_field};
 ghost use Rattle.typed_tree.specs.Spots.{part, pick, pair, by_twos, linked, all_linked, ids_rise, has_block, fits_at};
 ghost use Rattle.typed_tree.specs.Spots.{value_of};
 ghost use Rattle.typed_tree.specs.Pools.{store_of, values_of};
@@ -275,14 +275,13 @@ impl<'a> TreeRef<'a> {
         requires { IsRecord (value_of_ref self) }
         ensures { option_map value_of_ref result ≡ field_of (value_of_ref self.entry) id }
     {
-        if id < 0 {
-            return None;
-        }
-        self.natural_field(id.unsigned_abs())
+        self.numbered_field(id.cast_unsigned())
     }
 
-    fn natural_field(self, id: u16) -> Option<TreeRef<'a>>
-        ensures { option_map value_of_ref result ≡ field_of (value_of_ref self.entry) (pos id) }
+    // The field whose id is this number in the value.
+    fn numbered_field(self, id: u16) -> Option<TreeRef<'a>>
+        ensures { let whole = value_of_ref self.entry in
+            option_map value_of_ref result ≡ find_field (ids_of whole) (fields_of whole) id }
     {
         let links = self.fields();
         match links.binary_search_by_key(&id, |link| link.id) {

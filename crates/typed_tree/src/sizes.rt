@@ -3,11 +3,8 @@ ghost use Rattle.std.specs.Prelude.{◌≡◌};
 ghost use Rattle.idl_profile.specs.Types.{kind_of};
 ghost use Rattle.idl_parse.specs.Refs.{type_of_ref, field_of_ref};
 ghost use Rattle.frozen_model.specs.Values.{inline_cells as cells_inline, cells as cells_of};
-ghost use Rattle.type_kinds.specs.Accepted.{IsAccepted};
-ghost use Rattle.type_kinds.specs.Laws.{Any};
 ghost use Rattle.type_kinds.specs.KindsOf.{kinds_of};
 ghost use Rattle.typed_tree.specs.Sizes.{capped, capped_room, field_kinds, used_by, default_value, cells_of_default};
-ghost use Rattle.typed_tree.specs.Sizes.{IsAcceptedField};
 ghost use Rattle.type_kinds.specs.Defaults.{default_of, written};
 
 use crate::room::Room;
@@ -128,7 +125,6 @@ fn struct_room(ty: TypeRef<'_>) -> Room
 /// The cells of what the field has that nobody gave, and 2^64 - 1 where they are more. It goes as deep as the type.
 #[cycle(cells)]
 pub fn default_cells(field: FieldRef<'_>) -> u64
-    requires { IsAcceptedField (field_of_ref field) }
     ensures { result ≡ capped (cells_of_default (field_of_ref field.entry)) }
 {
     match field.need() {
@@ -141,7 +137,6 @@ pub fn default_cells(field: FieldRef<'_>) -> u64
 // The cells of a written default, and else of the type's own.
 #[cycle(cells)]
 fn written_cells(field: FieldRef<'_>) -> u64
-    requires { IsAcceptedField (field_of_ref field) }
     ensures { let f = field_of_ref field.entry in
         result ≡ capped (cells_of (kinds_of f.type) (written f.default (default_of f.type))) }
 {
@@ -157,7 +152,6 @@ fn written_cells(field: FieldRef<'_>) -> u64
 // The cells of a type's own default.
 #[cycle(cells)]
 fn type_cells(ty: TypeRef<'_>) -> u64
-    requires { IsAccepted Any (type_of_ref ty) }
     ensures { let t = type_of_ref ty.entry in result ≡ capped (cells_of (kinds_of t) (default_of t)) }
 {
     match ty.kind() {
@@ -179,8 +173,7 @@ fn type_cells(ty: TypeRef<'_>) -> u64
 // The cells of the defaults of all fields of a struct.
 #[cycle(cells)]
 fn field_defaults_cells(ty: TypeRef<'_>) -> u64
-    requires accepted { IsAccepted Any (type_of_ref ty) }
-    requires kind { kind_of (type_of_ref ty) ≡ TypeKind.Struct }
+    requires { kind_of (type_of_ref ty) ≡ TypeKind.Struct }
     ensures { let t = type_of_ref ty.entry in result ≡ capped (cells_of (kinds_of t) (default_of t)) }
 {
     let mut cells = 0u64;

@@ -21,7 +21,7 @@ fn push_type_links(links: &mut Vec<Link>, ty: TypeRef<'_>, nodes: &[u32])
     ensures capacity { vec_capacity links.new ≡ vec_capacity links.old }
 {
     for i in 0..ty.field_count() {
-        links.push_reserved(link_to(ty.field_at(i).id(), nodes[i as usize]));
+        links.push_reserved(link_to(ty.field_at(i).id().unsigned_abs(), nodes[i as usize]));
     }
 }
 

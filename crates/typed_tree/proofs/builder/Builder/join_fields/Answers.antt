@@ -6,6 +6,7 @@ use Rattle.frozen_model.specs.Values.{Value}
 use Rattle.typed_tree.specs.Filled.{struct_with}
 use Rattle.typed_tree.specs.Pools.{store_of, values_of}
 use Rattle.typed_tree.specs.Trees.{trees_in}
+use Rattle.root_kinds.proofs.References.{struct_ref_is_accepted}
 use Rattle.typed_tree.proofs.Builders.{values-kept, cut-trees, cut-kinds, joins-after, trees-from}
 use Rattle.typed_tree.proofs.Linked.{type-links-fit, struct-of-links}
 use Rattle.typed_tree.proofs.Stack.{below-cut-is, below-rest-is, rest-is, length-rest}
@@ -41,7 +42,7 @@ put-requires-clause-fit c =
     let q = c.add_type_links-run.new.self in
     let p = c.add_type_links-run.ensures in
     let low = below-rest-is b.pool.nodes.items q.nodes.items b.stack.items _ base b.placed (ap (λ v. v.items) p.nodes) (rest-is base c.deref.result.now ∙ ap (drop base) c.deref.ensures.value) in
-    type-links-fit (store_of q) _ c.add_type_links-run.result (type_of_ref c.args.ty) _ p.inside p.added low c.requires.kind c.requires.accepted
+    type-links-fit (store_of q) _ c.add_type_links-run.result (type_of_ref c.args.ty) _ p.inside p.added low c.requires.kind (struct_ref_is_accepted c.args.ty c.requires.kind)
 
 pub returns : goal.returns
 returns c =

@@ -3,10 +3,9 @@ use Rattle.typed_tree.specs.Rooms.{room_of}
 use Rattle.std.proofs.Common.{ℕ, List, ◌-◌, ◌∙◌, ap, refl, arith, length}
 use Rattle.std.specs.Str.{is_utf8}
 use Rattle.std.proofs.lemmas.Str.{is_utf8-from_IsUtf8}
-use Rattle.std.proofs.lemmas.Bool.{and_from}
+use Rattle.std.proofs.lemmas.Bool.{and_from, le-leb}
 use Rattle.frozen_model.specs.Values.{Bytes}
 use Rattle.typed_tree.specs.Pools.{store_of}
-use Rattle.typed_tree.proofs.Grow.{le-test}
 use Rattle.typed_tree.proofs.Builders.{grown-trees, grown-kinds, pushes-after, bytes-left}
 use Rattle.typed_tree.proofs.builder.Builder.put_text.Goals as goal
 
@@ -23,4 +22,4 @@ pub put-requires-clause-fit : goal.put-requires-clause-fit
 put-requires-clause-fit c =
     let e = c.put_bytes-block.ensures in
     let st = store_of c.put_bytes-block.new.self.pool in
-    and_from _ _ (le-test _ _ (omega (arith, e.inside))) (ap is_utf8 (e.added ∙ c.as_bytes.ensures.value) ∙ is_utf8-from_IsUtf8 c.args.x.now c.utf8.x)
+    and_from _ _ (le-leb _ _ (omega (arith, e.inside))) (ap is_utf8 (e.added ∙ c.as_bytes.ensures.value) ∙ is_utf8-from_IsUtf8 c.args.x.now c.utf8.x)

@@ -2,13 +2,13 @@
 use Rattle.std.proofs.Common.{◌≡◌, ◌∙◌, ◌+◌, ◌-◌, List, ap, refl, drop, length, vec_len, vec_capacity, slice_index_or, arith}
 use Rattle.std.proofs.lemmas.List.{length-map}
 use Rattle.frozen_model.specs.Values.{Value, Absent}
-use Rattle.typed_tree.specs.Fields.{natural, record_of}
+use Rattle.typed_tree.specs.Fields.{id_numbers, record_of}
 use Rattle.typed_tree.specs.Pools.{store_of, values_of}
 use Rattle.typed_tree.specs.Rooms.{room_of}
 use Rattle.typed_tree.specs.Trees.{trees_in, trees, last, but_last}
 use Rattle.typed_tree.proofs.Builders.{values-kept, cut-trees, cut-kinds, joins-after, trees-from, left-from}
 use Rattle.typed_tree.proofs.Stack.{below-cut-is, below-rest-is, rest-is, length-rest}
-use Rattle.typed_tree.proofs.Structs.{pick-fields, fields-fit, fields-differ}
+use Rattle.typed_tree.proofs.Structs.{pick-fields, fields-fit}
 use Rattle.typed_tree.proofs.builder.Builder.structure.Goals as goal
 
 pub invariant_of-self : goal.invariant_of-self
@@ -40,7 +40,7 @@ put-requires-clause-fit c =
     let base = c.len.result - length c.args.ids.now in
     let p = c.add_fields-run.ensures in
     let low = below-rest-is b.pool.nodes.items c.add_fields-run.new.self.nodes.items b.stack.items _ base b.placed (ap (λ v. v.items) p.nodes) (rest-is base c.deref.result.now ∙ ap (drop base) c.deref.ensures.value) in
-    fields-fit (store_of c.add_fields-run.new.self) _ c.add_fields-run.result c.args.ids.now _ p.inside p.added low (fields-differ c.args.ids.now _ c.requires.natural c.requires.differ)
+    fields-fit (store_of c.add_fields-run.new.self) _ c.add_fields-run.result (id_numbers c.args.ids.now) _ p.inside p.added low p.rise
 
 pub returns-clause-joined : goal.returns-clause-joined
 returns-clause-joined c =
@@ -60,6 +60,6 @@ returns-clause-joined c =
     joins-after a _ c.put.new.self n _ _ _ _ _ (room_of 1 0) c.put.ensures.pushed
     (cut-trees b q p.grows nodes base n _ c.truncate.ensures.items place ∙ ap (but_last n) e.same.0)
     (cut-kinds b q p.grows nodes base n _ c.truncate.ensures.items place ∙ ap (but_last n) e.same.1)
-    (pick-fields (values_of q) c.args.ids.now _ _ p.added
-    ∙ ap (record_of (natural c.args.ids.now)) (trees-from q b.stack.items base c.deref.result.now c.deref.ensures.value ∙ ap (λ (vs : List Value). drop base (trees_in vs b.stack.items)) kept ∙ ap (drop base) e.same.0 ∙ ap (λ i. drop i (trees a)) here))
+    (pick-fields (values_of q) (id_numbers c.args.ids.now) _ _ p.added
+    ∙ ap (record_of (id_numbers c.args.ids.now)) (trees-from q b.stack.items base c.deref.result.now c.deref.ensures.value ∙ ap (λ (vs : List Value). drop base (trees_in vs b.stack.items)) kept ∙ ap (drop base) e.same.0 ∙ ap (λ i. drop i (trees a)) here))
     refl (left-from a.room b.room (room_of 1 0) e.room)

@@ -16,3 +16,5 @@ pub mod Marks
 pub mod Taken
 pub mod Shaping
 pub mod Shaped
+pub mod Clearing
+pub mod Whole

@@ -2,8 +2,9 @@
 use Rattle.std.proofs.Common.{◌≡◌, ◌⊎◌, inl, inr, ℕ, ℤ, suc, ◌+◌, ◌≤◌, List, ◌++◌, arith, refl, ap, sym, ◌∙◌, length, get_or, subst}
 use Rattle.std.proofs.Math.Logic.{∥∥₁_elim}
 use Rattle.std.proofs.Math.Bridge.{le_prop}
-use Rattle.frozen_model.specs.Trees.{LeafKind, Flag, Integer, I8, I16, I32, I64, Text, Binary, AList, ASet, AMap, Tree, Trees, Leaf, ByteRange, ItemRange, Optional, Struct, NoField, Field, nodes, nodes_all, Part, greatest, greatest_bits, greatest_bits_all, IsNarrow, AllNarrow, itself, in_item, in_optional, in_struct, PartAll, in_first, in_later, kinds as kinds_of, kinds_all}
+use Rattle.frozen_model.specs.Trees.{LeafKind, Flag, Integer, I8, I16, I32, I64, Text, Binary, AList, ASet, AMap, Tree, Trees, Leaf, ByteRange, ItemRange, Optional, Struct, NoField, Field, nodes, nodes_all, Part, greatest_bits, greatest_bits_all, IsNarrow, AllNarrow, itself, in_item, in_optional, in_struct, PartAll, in_first, in_later, kinds as kinds_of, kinds_all}
 use Rattle.frozen_model.specs.Layouts.{Version, Version1, Version2, FromBase, Layout, width, stride, strides, Legal, AllLegal}
+use Rattle.frozen_laws.proofs.Limits.{greatest_small}
 use Rattle.layout_tree.specs.declared.node.NodeSpec.{NodeSpec}
 use Rattle.layout_tree.specs.declared.node.FormVersion.{FormVersion}
 use Rattle.layout_tree.specs.declared.node.Kind.{Kind}
@@ -89,13 +90,6 @@ mutual
   pub strides_greatest : (v : Version) (ls : AllNoted) → AllLegal (layouts_in v ls) → strides (layouts_in v ls) ≤ greatest_bits_all (kinds_all ls)
   strides_greatest v NoField h = omega arith
   strides_greatest v (Field i l ls) h = omega (arith, stride_greatest v l h.0, strides_greatest v ls h.1)
-
-pub greatest_small : (k : LeafKind) → greatest k ≤ 64
-greatest_small Flag = omega arith
-greatest_small (Integer I8) = omega arith
-greatest_small (Integer I16) = omega arith
-greatest_small (Integer I32) = omega arith
-greatest_small (Integer I64) = omega arith
 
 pub stride_small : (v : Version) (t : Noted) → Legal (layout_in v t) → IsNarrow (kinds_of t) → stride (layout_in v t) ≤ 32767
 stride_small v (Leaf k c) h n = omega (arith, h, greatest_small k)

@@ -39,7 +39,7 @@ abbrev mutual
   still_all NoField = true
   still_all (Field i l ls) = still l && still_all ls
 
-struct_item : (h : _) → IsStructKind (item_struct h)
+pub struct_item : (h : _) → IsStructKind (item_struct h)
 struct_item AList = tt
 struct_item ASet = tt
 struct_item AMap = tt

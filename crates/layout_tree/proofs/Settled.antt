@@ -5,13 +5,14 @@ use Rattle.std.proofs.Math.Bridge.{le_prop}
 use Rattle.std.proofs.lemmas.List.{append-nil, drop_all, take_all}
 use Rattle.frozen_model.specs.Trees.{LeafKind, Flag, Integer, Leaf, ByteRange, ItemRange, Optional, Struct, NoField, Field, nodes, nodes_all, kinds as kinds_of, kinds_all, IsStruct, IsKindTree, Tree}
 use Rattle.frozen_model.specs.Layouts.{Version, Version1, Version2, IsCoded, flag_coded, signed_coded, based_coded, OfVersion, AllOfVersion, Legal, AllLegal}
+use Rattle.frozen_laws.proofs.Limits.{greatest_small}
 use Rattle.layout_tree.specs.declared.node.NodeSpec.{NodeSpec}
 use Rattle.layout_tree.specs.declared.node.FormVersion.{FormVersion}
 use Rattle.layout_tree.specs.declared.node.Kind.TheVariants as kinds
 use Rattle.layout_tree.specs.Listing.{LeafWidths, Noted, AllNoted, coded, layout_in, layouts_in, settled, settled_all, nodes_of, tree_of, all_nodes, IsListing, version_of, IsNotedLayout}
 use Rattle.layout_tree.specs.Segments.{total, total_all, Segment, PartSettled}
 use Rattle.layout_tree.proofs.Decode.{tree_again}
-use Rattle.layout_tree.proofs.Readings.{coded_width, greatest_small, few_nodes}
+use Rattle.layout_tree.proofs.Readings.{coded_width, few_nodes}
 
 mutual
   settled_kinds : (t : Noted) → kinds_of (settled t) ≡ kinds_of t
@@ -112,7 +113,7 @@ pub record Settles (e : FormVersion) (ns ms : List NodeSpec) : Type 0 where
   pub sound : ∥ IsNotedLayout e (tree_of ms) ∥₁
 
 -- what a loan gives back
-pub returned : (old new : List NodeSpec) (n : ℕ) → n ≡ length old → length new ≡ length old → take n (new ++ drop (length new) old) ≡ new
+pub returned : {A : Type 0} (old new : List A) (n : ℕ) → n ≡ length old → length new ≡ length old → take n (new ++ drop (length new) old) ≡ new
 returned old new n e f =
     ap (λ r. take n (new ++ r)) (drop_all (length new) old (omega arith)) ∙ ap (take n) (append-nil new) ∙ take_all n new (omega arith)
 

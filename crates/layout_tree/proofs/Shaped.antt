@@ -2,10 +2,12 @@
 use Rattle.idl_profile.specs.Types.{TypeTree}
 use Rattle.type_kinds.specs.KindsOf.{kinds_of}
 use Rattle.layout_tree.specs.declared.node.Kind.TheVariants as kinds
-use Rattle.std.proofs.Common.{length, ◌≡◌, pos, true, ◌++◌, List, [], arith, refl, ap, sym, ◌∙◌, subst}
-use Rattle.frozen_model.specs.Trees.{Whole, I8, I16, I32, I64, LeafKind, Flag, Integer, Leaf, ByteRange, ItemRange, Optional, Struct, NoField, Field, KindTree, KindTrees, kinds as kinds_tree, kinds_all, IsStruct, IsKindTree, value_bits}
+use Rattle.std.proofs.Common.{ℕ, length, ◌≡◌, pos, true, ◌++◌, List, [], arith, refl, ap, sym, ◌∙◌, subst}
+use Rattle.frozen_model.specs.Trees.{Whole, I8, I16, I32, I64, LeafKind, Flag, Integer, Leaf, ByteRange, ItemRange, Optional, Struct, NoField, Field, KindTree, KindTrees, kinds as kinds_tree, kinds_all, IsStruct, IsKindTree, value_bits, Alike, AllLeafwise, leaf, byte_range, item_range, optional, struct, no_field, field}
 use Rattle.frozen_model.specs.Values.{InBits}
-use Rattle.frozen_model.specs.Layouts.{Version2, IsCoded, flag_coded, based_coded, OfVersion, AllOfVersion, Legal, AllLegal, described}
+use Rattle.frozen_model.specs.Layouts.{Version2, IsCoded, flag_coded, based_coded, Coded, OfVersion, AllOfVersion, Legal, AllLegal, IsDescribed, described}
+use Rattle.frozen_model.specs.Holding.{Blank, AllBlank}
+use Rattle.frozen_laws.proofs.SameKinds.{struct_along, kind_tree_along}
 use Rattle.layout_tree.specs.declared.node.NodeSpec.{NodeSpec}
 use Rattle.layout_tree.specs.declared.node.FormVersion.TheVariants.{Second}
 use Rattle.layout_tree.specs.Listing.{Noted, AllNoted, coded, layout_in, layouts_in, settled, settled_all, tree_of, nodes_of, all_nodes, IsListing, IsNotedLayout}
@@ -14,7 +16,7 @@ use Rattle.layout_tree.specs.Shapes.{blank, all_blank, shape_of, CanAdd, Adds}
 use Rattle.layout_tree.proofs.Decode.{tree_again}
 
 mutual
-  blank_kinds : (k : KindTree) → kinds_tree (blank k) ≡ k
+  pub blank_kinds : (k : KindTree) → kinds_tree (blank k) ≡ k
   blank_kinds (Leaf k a) = refl
   blank_kinds (ByteRange t d c) = refl
   blank_kinds (ItemRange h d c l) = ap (λ (m : KindTree). ItemRange h d c m) (blank_kinds l)
@@ -26,7 +28,7 @@ mutual
   all_blank_kinds (Field i l ls) = let e = blank_kinds l in let f = all_blank_kinds ls in cc
 
 mutual
-  blank_settled : (k : KindTree) → settled (blank k) ≡ blank k
+  pub blank_settled : (k : KindTree) → settled (blank k) ≡ blank k
   blank_settled (Leaf k a) = refl
   blank_settled (ByteRange t d c) = refl
   blank_settled (ItemRange h d c l) = ap (λ (m : Noted). ItemRange h (resting 0) (resting 0) m) (blank_settled l)
@@ -72,7 +74,7 @@ mutual
   all_blank_legal NoField = tt
   all_blank_legal (Field i l ls) = (blank_legal l, all_blank_legal ls)
 
-blank_sound : (k : KindTree) → IsKindTree k → IsStruct k → IsNotedLayout Second (blank k)
+pub blank_sound : (k : KindTree) → IsKindTree k → IsStruct k → IsNotedLayout Second (blank k)
 blank_sound k h r = record {
   root = subst (λ (m : KindTree). IsStruct m) (sym (blank_kinds k)) r;
   kind_tree = subst (λ (m : KindTree). IsKindTree m) (sym (blank_kinds k)) h;
@@ -107,3 +109,36 @@ root_room old t u eo et h =
 pub root_added : (old new : List NodeSpec) (t u : TypeTree) → old ≡ [] → t ≡ u → Adds old new (kinds_of t) 0 0 → new ≡ [] ++ all_nodes (blank (kinds_of u))
 root_added old new t u eo et h =
     subst (λ o. new ≡ o ++ nodes_of (blank (kinds_of u)) kinds.Struct (length o) 0 0 0) eo (subst (λ z. Adds old new (kinds_of z) 0 0) et h)
+
+-- a shape is a layout within the limits
+mutual
+  pub blank_alike : (k : KindTree) → Alike k (layout_in Version2 (blank k))
+  blank_alike (Leaf k a) = leaf tt
+  blank_alike (ByteRange t d c) = byte_range tt tt
+  blank_alike (ItemRange h d c l) = item_range tt tt (blank_alike l)
+  blank_alike (Optional w l) = optional tt (blank_alike l)
+  blank_alike (Struct ls) = struct (all_blank_alike ls)
+
+  all_blank_alike : (ks : KindTrees) → AllLeafwise (λ (k : LeafKind) (a : Unit {0}) (c : Coded). Unit {0}) (λ (b : Unit {0}) (d : ℕ). Unit {0}) (λ (b : Unit {0}) (d : ℕ). Unit {0}) ks (layouts_in Version2 (all_blank ks))
+  all_blank_alike NoField = no_field
+  all_blank_alike (Field i l ls) = field (blank_alike l) (all_blank_alike ls)
+
+pub shape_described : (k : KindTree) → IsKindTree k → IsStruct k → IsDescribed (shape_of k)
+shape_described k h r = record {
+  relaxing = tt;
+  layout = record { root = struct_along (blank_alike k) r; kind_tree = kind_tree_along (blank_alike k) h; coded = blank_coded k; legal = blank_legal k };
+}
+
+-- all its widths are 0
+mutual
+  pub blank_widths : (k : KindTree) → Blank (layout_in Version2 (blank k))
+  blank_widths (Leaf Flag a) = refl
+  blank_widths (Leaf (Integer j) a) = refl
+  blank_widths (ByteRange t d c) = (refl, refl)
+  blank_widths (ItemRange h d c l) = (refl, refl, blank_widths l)
+  blank_widths (Optional w l) = (refl, blank_widths l)
+  blank_widths (Struct ls) = all_blank_widths ls
+
+  all_blank_widths : (ks : KindTrees) → AllBlank (layouts_in Version2 (all_blank ks))
+  all_blank_widths NoField = tt
+  all_blank_widths (Field i l ls) = (blank_widths l, all_blank_widths ls)

@@ -1,5 +1,5 @@
 -- A layout with another base at a leaf.
-use Rattle.std.specs.Prelude.{ℕ, zero, suc, ℤ, ◌-◌, ◌<◌, ◌≤◌, ◌⊎◌, nat_lt, if◌then◌else◌}
+use Rattle.std.specs.Prelude.{ℕ, zero, suc, ℤ, ◌-◌, ◌<◌, ◌≤◌, ◌⊎◌, Bool, true, false, nat_lt, if◌then◌else◌}
 use Rattle.frozen_model.specs.Trees.{Integer, Leaf, ItemRange, Optional, Struct, NoField, Field, nodes, value_bits}
 use Rattle.frozen_model.specs.Values.{InBits}
 use Rattle.layout_tree.specs.Listing.{Noted, AllNoted}
@@ -29,3 +29,16 @@ abbrev mutual
   pub BaseAmong : AllNoted → ℕ → ℤ → Type 0
   BaseAmong NoField k b = ⊥
   BaseAmong (Field id l ls) k b = ((k < nodes l) × BaseAt l k b) ⊎ ((nodes l ≤ k) × BaseAmong ls (k - nodes l) b)
+
+-- whether the k-th node of a tree is a leaf of whole numbers
+abbrev mutual
+  pub whole_at : Noted → ℕ → Bool
+  whole_at (Leaf (Integer j) c) zero = true
+  whole_at (ItemRange h d c l) (suc (suc (suc k))) = whole_at l k
+  whole_at (Optional x l) (suc (suc k)) = whole_at l k
+  whole_at (Struct ls) (suc k) = whole_among ls k
+  whole_at t k = false
+
+  pub whole_among : AllNoted → ℕ → Bool
+  whole_among NoField k = false
+  whole_among (Field id l ls) k = if nat_lt k (nodes l) then whole_at l k else whole_among ls (k - nodes l)

@@ -1,5 +1,5 @@
 -- What can be read at a node.
-use Rattle.std.specs.Prelude.{ℕ, suc, ◌+◌, ℤ, pos, Option, Some, None, ◌&&◌, if◌then◌else◌}
+use Rattle.std.specs.Prelude.{ℕ, suc, ◌+◌, ℤ, pos, Option, Some, None, Bool, true, false, ◌&&◌, if◌then◌else◌}
 use Rattle.std.specs.Ordering.{int_eq}
 use Rattle.frozen_model.specs.Trees.{Leaf, ByteRange, ItemRange, Optional, Struct, Tree, Trees, NoField, Field, nodes}
 use Rattle.frozen_model.specs.Layouts.{Layout, stride, Coded, Unsigned, TwosComplement, FromBase}
@@ -101,3 +101,11 @@ child_of (Struct ls) i id = field_node ls (suc i) id
 abbrev pub IsStruct : {A B : Type 0} → Tree A B → Type 0
 IsStruct (Struct ls) = Unit {0}
 IsStruct _ = ⊥
+
+-- whether it is a kind of whole numbers
+abbrev pub whole_kind : Kind → Bool
+whole_kind kinds.I8 = true
+whole_kind kinds.I16 = true
+whole_kind kinds.I32 = true
+whole_kind kinds.I64 = true
+whole_kind _ = false

@@ -68,3 +68,17 @@ pub record RowIs (k : Kind) (t : TypeTree) : Type 0 where
 -- a node with another number in the place of the noted width
 abbrev pub marked : NodeSpec → ℕ → NodeSpec
 marked x w = record { kind = x.kind; field = x.field; parent = x.parent; bits = x.bits; wide = w; offset = x.offset; base = x.base }
+
+-- the number after the nodes below a node stays, and the noted width of a leaf goes
+abbrev pub cleared_wide : Kind → ℕ → ℕ
+cleared_wide kinds.Flag w = 0
+cleared_wide kinds.I8 w = 0
+cleared_wide kinds.I16 w = 0
+cleared_wide kinds.I32 w = 0
+cleared_wide kinds.I64 w = 0
+cleared_wide kinds.Size w = 0
+cleared_wide _ w = w
+
+-- a node with no bits, at offset 0 and from base 0
+abbrev pub cleared : NodeSpec → NodeSpec
+cleared x = record { kind = x.kind; field = x.field; parent = x.parent; bits = 0; wide = cleared_wide x.kind x.wide; offset = 0; base = pos 0 }

@@ -2,7 +2,7 @@
 ghost use Rattle.layout_tree.specs.Listing.{IsListing, IsNotedLayout, tree_of, version_of, version_number};
 ghost use Rattle.frozen_model.specs.Layouts.{MayRelax, Version};
 ghost use Rattle.std.specs.Prelude.{◌≡◌, ◌<◌};
-ghost use Rattle.layout_tree.specs.Reading.{nth_child_of};
+ghost use Rattle.layout_tree.specs.Reading.{nth_child_of, whole_kind};
 ghost use Rattle.layout_tree.specs.Rest.{rests_in};
 ghost use Rattle.layout_tree.specs.Given.{shown_wide};
 
@@ -30,7 +30,7 @@ impl Layouts {
     ghost use Rattle.layout_tree.specs.Given.{IsListOf, ListsLayout};
     ghost use Rattle.layout_tree.specs.Nodes.{IsNode, at, noted_in, layout_of, settled_of, IsSettled, IsNumber, listed};
     ghost use Rattle.layout_tree.specs.Noting.{LeafAt, noted_at, wide_at};
-    ghost use Rattle.layout_tree.specs.Basing.{BaseAt, based_at};
+    ghost use Rattle.layout_tree.specs.Basing.{BaseAt, based_at, whole_at};
     ghost use Rattle.layout_tree.specs.Reading.{plain, kind_at, IsLeaf, IsRange, IsOptional, distance_width, count_width, isset_width, item_stride, IsStruct, child_of};
 
     /// The layout of this version, 1 or 2, that the nodes are the list of, each leaf's width noted as it is. It takes no memory.
@@ -91,6 +91,15 @@ impl Layouts {
         ensures leaf { IsLeaf (at self.now node) → result ≤ 64 }
     {
         self.nodes[node as usize].bits
+    }
+
+    /// Whether a node is a leaf of whole numbers.
+    #[inline]
+    pub fn is_whole(&self, node: u32) -> bool
+        requires { IsNumber self.now node }
+        ensures { result ≡ whole_at (noted_in self.now) node }
+    {
+        is_whole_kind(self.nodes[node as usize].kind)
     }
 
     /// The base of a leaf that has one.
@@ -304,6 +313,17 @@ fn wide_of(node: &NodeSpec) -> u32
     match node.kind {
         Kind::Flag | Kind::I8 | Kind::I16 | Kind::I32 | Kind::I64 | Kind::Size => node.wide,
         _ => node.bits,
+    }
+}
+
+// Whether a kind is one of whole numbers.
+#[inline]
+fn is_whole_kind(kind: Kind) -> bool
+    ensures { result ≡ whole_kind kind }
+{
+    match kind {
+        Kind::I8 | Kind::I16 | Kind::I32 | Kind::I64 => true,
+        _ => false,
     }
 }
 

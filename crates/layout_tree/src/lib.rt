@@ -6,6 +6,7 @@ mod laws;
 mod layouts;
 mod mark;
 mod node;
+mod renew;
 mod settle;
 
 pub use blank::shape;

@@ -1,0 +1,7 @@
+pub mod Seen
+pub mod Arms
+pub mod Left
+pub mod Least
+pub mod Holes
+pub mod Steps
+pub mod Based

@@ -1,9 +1,9 @@
 -- What each form of a value comes to.
-use Rattle.std.proofs.Common.{◌≡◌, ◌⊎◌, inl, inr, ℕ, zero, suc, ◌+◌, ◌-◌, ◌*◌, ◌/◌, ◌%◌, ◌^◌, ◌≤◌, ◌<◌, List, [], ◌++◌, Bool, true, false, cond, length, ℤ, arith, refl, ap, sym, ◌∙◌, subst, replicate}
+use Rattle.std.proofs.Common.{◌≡◌, ℕ, zero, suc, ◌+◌, ◌-◌, ◌*◌, ◌/◌, ◌%◌, ◌^◌, ◌≤◌, ◌<◌, List, [], ◌++◌, Bool, true, false, cond, length, ℤ, arith, refl, ap, sym, ◌∙◌, subst, replicate}
 use Rattle.std.proofs.lemmas.List.{append-nil}
 use Rattle.frozen_model.specs.Bits.{bits, bits_of, digits}
-use Rattle.frozen_model.specs.Trees.{AList, ASet, AMap, LeafKind, Flag, Integer, ByteKind, Holder, Leaf, ByteRange, ItemRange, Optional, Struct}
-use Rattle.frozen_model.specs.Values.{Atom, Truth, Number, Value, Values, One, Bytes, Items, Absent, Present, Record, count, Of, one, bytes, items, present, OfEach}
+use Rattle.frozen_model.specs.Trees.{LeafKind, Flag, Integer, ByteKind, Holder, Leaf, ByteRange, ItemRange, Optional, Struct}
+use Rattle.frozen_model.specs.Values.{Atom, Truth, Number, Value, Values, One, Bytes, Items, Absent, Present, count, Of, one, bytes, items, present, OfEach}
 use Rattle.frozen_model.specs.Layouts.{Version, Coded, Unsigned, Layout, Fits, stored, number_of, width, stride}
 use Rattle.frozen_model.specs.Packing.{extent, extents, bytes_for, distance, range_bits, image, images, tail, tails}
 use Rattle.frozen_laws.specs.Everywhere.{HoldsAt, HoldsEach, RangeFits}
@@ -20,13 +20,10 @@ use Rattle.layout_tree.specs.Listing.{Noted, layout_in}
 use Rattle.layout_tree.specs.Reading.{IsRange, IsHolder, IsOptional, distance_width, count_width, isset_width, item_of}
 use Rattle.freezer.specs.Writing.{Writes, Ready, Wrote, EachReady, EachWrote}
 use Rattle.freezer.specs.Leaves.{StoresAt}
-use Rattle.typed_tree.specs.Parts.{IsText, IsBytes, IsList, IsSet, IsRow, IsMap, IsItems, items_of as items_in}
 use mir.Val.{bool_byte}
-use Rattle.typed_tree.specs.References.{HasForm}
-use Rattle.typed_tree.specs.declared.tree.TreeKind.{TreeKind}
-use Rattle.typed_tree.specs.declared.tree.TreeKind.TheVariants as kinds
 use Rattle.freezer.proofs.Runs.{writes_zeros, writes_joined, writes_range}
 use Rattle.freezer.proofs.Puts.{put, put_writes, copy_in_block}
+use Rattle.typed_tree.proofs.Forms.{AreItems}
 
 -- ---- leaves
 
@@ -154,11 +151,6 @@ pub record ItemsAt (l : Layout) (vs : Values) (at : ℕ) : Type 0 where
   pub fits : RangeFits d c (count vs) at
   pub holds : HoldsEach item vs (bytes_for (count vs * stride item))
 
--- the value is these items, of a list, a set or a map
-pub record AreItems (u : Value) (vs : Values) : Type 0 where
-  pub holder : Holder
-  pub is : u ≡ Items holder vs
-
 pub items_at : (l : Layout) (u : Value) (vs : Values) (at : ℕ) → AreItems u vs → Of l u → HoldsAt l u at → ItemsAt l vs at
 items_at l u vs at e o h = go l e.holder (subst (Of l) e.is o) (subst (λ y. HoldsAt l y at) e.is h)
   where
@@ -204,14 +196,6 @@ range_stride (ByteRange t d c) h = refl
 range_stride (ItemRange g d c l) h = refl
 range_stride (Optional w l) h = absurd h
 range_stride (Struct ls) h = absurd h
-
-pub distance_none : (n at x : ℕ) → n ≡ 0 → x ≡ 0 → x ≡ distance n at
-distance_none zero at x e h = h
-distance_none (suc n) at x e h = absurd (omega arith)
-
-pub distance_some : (n at x : ℕ) → (n ≡ 0 → ⊥) → x ≡ at → x ≡ distance n at
-distance_some zero at x e h = absurd (e refl)
-distance_some (suc n) at x e h = h
 
 -- the distance and the count in one number
 pub record Both (d c x n : ℕ) : Type 0 where
@@ -363,83 +347,9 @@ items_done l u vs at blk k old tk mid new b inner bit eu eb ei et t ln low f r =
 
 -- ---- forms of values
 
-pub items_form : (u : Value) → IsItems u → AreItems u (items_in u)
-items_form (Items g vs) h = record { holder = g; is = refl }
-items_form (One x) h = absurd h
-items_form (Bytes x) h = absurd h
-items_form Absent h = absurd h
-items_form (Present x) h = absurd h
-items_form (Record ids x) h = absurd h
-
-pub row_is : (u : Value) → IsRow u → IsItems u
-row_is (Items AList vs) h = tt
-row_is (Items ASet vs) h = tt
-row_is (Items AMap vs) h = absurd h
-row_is (One x) h = absurd h
-row_is (Bytes x) h = absurd h
-row_is Absent h = absurd h
-row_is (Present x) h = absurd h
-row_is (Record ids x) h = absurd h
-
-pub map_is : (u : Value) → IsMap u → IsItems u
-map_is (Items AMap vs) h = tt
-map_is (Items AList vs) h = absurd h
-map_is (Items ASet vs) h = absurd h
-map_is (One x) h = absurd h
-map_is (Bytes x) h = absurd h
-map_is Absent h = absurd h
-map_is (Present x) h = absurd h
-map_is (Record ids x) h = absurd h
-
-list_row : (u : Value) → IsList u → IsRow u
-list_row (Items AList vs) h = tt
-list_row (Items ASet vs) h = absurd h
-list_row (Items AMap vs) h = absurd h
-list_row (One x) h = absurd h
-list_row (Bytes x) h = absurd h
-list_row Absent h = absurd h
-list_row (Present x) h = absurd h
-list_row (Record ids x) h = absurd h
-
-set_row : (u : Value) → IsSet u → IsRow u
-set_row (Items ASet vs) h = tt
-set_row (Items AList vs) h = absurd h
-set_row (Items AMap vs) h = absurd h
-set_row (One x) h = absurd h
-set_row (Bytes x) h = absurd h
-set_row Absent h = absurd h
-set_row (Present x) h = absurd h
-set_row (Record ids x) h = absurd h
-
-text_bytes : (u : Value) → IsText u → IsBytes u
-text_bytes (Bytes x) h = tt
-text_bytes (Items g vs) h = absurd h
-text_bytes (One x) h = absurd h
-text_bytes Absent h = absurd h
-text_bytes (Present x) h = absurd h
-text_bytes (Record ids x) h = absurd h
-
--- forms by kinds
-pub row_kind : (k : TreeKind) (u : Value) → HasForm k u → (k ≡ kinds.List) ⊎ ((k ≡ kinds.Set) ⊎ (k ≡ kinds.Map)) → (k ≡ kinds.Map → ⊥) → IsRow u
-row_kind k u h (inl e) f = list_row u (subst (λ z. HasForm z u) e h)
-row_kind k u h (inr (inl e)) f = set_row u (subst (λ z. HasForm z u) e h)
-row_kind k u h (inr (inr e)) f = absurd (f e)
-
-pub map_kind : (k : TreeKind) (u : Value) → HasForm k u → k ≡ kinds.Map → IsMap u
-map_kind k u h e = subst (λ z. HasForm z u) e h
-
-pub bytes_kind : (k : TreeKind) (u : Value) → HasForm k u → (k ≡ kinds.Text) ⊎ (k ≡ kinds.Bytes) → IsBytes u
-bytes_kind k u h (inl e) = text_bytes u (subst (λ z. HasForm z u) e h)
-bytes_kind k u h (inr e) = subst (λ z. HasForm z u) e h
-
 pub byte_is : (b : Bool) → bool_byte b ≡ cond b 1 0
 byte_is true = refl
 byte_is false = refl
-
-pub items_kind : (k : TreeKind) (u : Value) → HasForm k u → (k ≡ kinds.List) ⊎ ((k ≡ kinds.Set) ⊎ (k ≡ kinds.Map)) → IsItems u
-items_kind k u h (inl e) = row_is u (list_row u (subst (λ z. HasForm z u) e h))
-items_kind k u h (inr (inl e)) = row_is u (set_row u (subst (λ z. HasForm z u) e h))
-items_kind k u h (inr (inr e)) = map_is u (subst (λ z. HasForm z u) e h)
 
 pub present_width : (l : Layout) (x : Value) (at w : ℕ) (p : PresentAt l x at) → w ≡ isset_width l → w ≡ p.w
 present_width l x at w p e = e ∙ ap isset_width p.is

@@ -1,5 +1,5 @@
 -- What is left to write, as the loops over items and over fields go on.
-use Rattle.std.proofs.Common.{◌≡◌, ℕ, zero, suc, ◌+◌, ◌-◌, ◌*◌, ◌^◌, ◌≤◌, ◌<◌, List, [], ◌++◌, Bool, length, arith, refl, ap, sym, ◌∙◌, subst}
+use Rattle.std.proofs.Common.{◌≡◌, ℕ, suc, ◌+◌, ◌-◌, ◌*◌, ◌^◌, ◌≤◌, ◌<◌, List, [], ◌++◌, Bool, length, arith, refl, ap, sym, ◌∙◌, subst}
 use Rattle.std.proofs.Math.Nat.{mul-le-mul_right, mul-le-mul_left}
 use Rattle.frozen_model.specs.Bits.{bits_of}
 use Rattle.frozen_model.specs.Trees.{Leaf, ByteRange, ItemRange, Optional, Struct, NoField, Field, nodes, nodes_all}
@@ -14,9 +14,9 @@ use Rattle.layout_tree.specs.Listing.{Noted, AllNoted, layout_in, layouts_in, su
 use Rattle.layout_tree.proofs.Children.{Child, FieldsAt, struct_at, first_child, later_children}
 use Rattle.layout_tree.proofs.Readings.{same_nodes}
 use Rattle.layout_tree.proofs.Place.{some_nodes}
-use Rattle.typed_tree.specs.Parts.{items_of, fields_of, IsItems, IsRecord}
+use Rattle.typed_tree.specs.Parts.{fields_of, IsRecord}
 use Rattle.typed_tree.specs.Spots.{pair}
-use Rattle.freezer.specs.Writing.{Writes, Ready, Wrote, EachReady, EachWrote, FieldsWrote, height, heights}
+use Rattle.freezer.specs.Writing.{Writes, Ready, Wrote, EachReady, EachWrote, FieldsWrote}
 use Rattle.freezer.proofs.Runs.{writes_nothing, writes_joined}
 
 -- the same write at the same places, otherwise counted
@@ -288,26 +288,3 @@ pub pair_second : (t : Noted) (v : Version) (l : Layout) (key value : Value) (s0
 pair_second t v l key value s0 s b bit place child end left =
     let u = pair key value in
     fields_step t v l u s0 s b bit place child end 1 left (fields_more t v l u s0 s b bit place child end 1 left (omega arith))
-
--- ---- heights
-
-pub height_nth : (vs : Values) (i : ℕ) → height (nth vs i) ≤ heights vs
-height_nth NoValue i = omega arith
-height_nth (And v vs) zero = omega arith
-height_nth (And v vs) (suc i) = omega (arith, height_nth vs i)
-
-pub height_items : (u : Value) → IsItems u → height u ≡ suc (heights (items_of u))
-height_items (Items g vs) h = refl
-height_items (One x) h = absurd h
-height_items (Bytes x) h = absurd h
-height_items Absent h = absurd h
-height_items (Present x) h = absurd h
-height_items (Record ids x) h = absurd h
-
-pub height_fields : (u : Value) → IsRecord u → height u ≡ suc (heights (fields_of u))
-height_fields (Record ids vs) h = refl
-height_fields (One x) h = absurd h
-height_fields (Bytes x) h = absurd h
-height_fields (Items g x) h = absurd h
-height_fields Absent h = absurd h
-height_fields (Present x) h = absurd h

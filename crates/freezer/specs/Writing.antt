@@ -1,7 +1,7 @@
 -- What writing a value does to a region.
-use Rattle.std.specs.Prelude.{◌≡◌, ℕ, suc, ◌+◌, ◌-◌, ◌*◌, ◌^◌, ◌<◌, ◌≤◌, List, ◌++◌, Bool, false, length, replicate, max}
+use Rattle.std.specs.Prelude.{◌≡◌, ℕ, ◌+◌, ◌-◌, ◌*◌, ◌^◌, ◌<◌, ◌≤◌, List, ◌++◌, Bool, false, length, replicate}
 use Rattle.frozen_model.specs.Bits.{bits_of}
-use Rattle.frozen_model.specs.Values.{Value, Values, One, Bytes, Items, Absent, Present, Record, NoValue, And, count, Of, OfEach}
+use Rattle.frozen_model.specs.Values.{Value, Values, count, Of, OfEach}
 use Rattle.frozen_model.specs.Layouts.{Layout, Layouts, stride, strides}
 use Rattle.frozen_model.specs.Packing.{extent, extents, extent_all, image, images, image_all, tail, tails, tail_all}
 use Rattle.frozen_laws.specs.Everywhere.{HoldsAt, HoldsEach}
@@ -48,18 +48,3 @@ pub record FieldsWrote (ls : Layouts) (vs : Values) (old new : Space) (b : Span)
   pub taken : new.taken ≡ old.taken + extent_all ls vs
   pub length : length new.bytes ≡ length old.bytes
   pub written : Writes (bits_of old.bytes) (bits_of new.bytes) (8 * b.start + bit) (strides ls) (image_all ls vs (old.taken - b.start)) (8 * old.taken) (8 * extent_all ls vs) (tail_all ls vs)
-
--- ---- heights
-
-abbrev mutual
-  pub height : Value → ℕ
-  height (One x) = 0
-  height (Bytes bs) = 0
-  height (Items g vs) = suc (heights vs)
-  height Absent = 0
-  height (Present v) = suc (height v)
-  height (Record ids vs) = suc (heights vs)
-
-  pub heights : Values → ℕ
-  heights NoValue = 0
-  heights (And v vs) = max (height v) (heights vs)

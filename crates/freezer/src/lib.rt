@@ -1,12 +1,14 @@
 //! Packing: writes values into regions.
 #![tactic(auto)]
 
-mod freeze;
 mod leaf;
+mod least;
+mod pack;
 mod put;
 mod write;
 
-pub use freeze::freeze_into;
+pub use least::{Frozen, freeze};
+pub use pack::freeze_into;
 
 #[cfg(test)]
 mod tests;

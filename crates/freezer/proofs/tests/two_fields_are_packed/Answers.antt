@@ -1,7 +1,7 @@
 use Rattle.std.proofs.Common.{◌≡◌, rules, false, arith, refl, pos, negsuc, ℕ, ◌<◌, ◌≤◌, ◌+◌, ◌*◌, ap, sym, ◌∙◌, subst, length, List, [], ◌∷◌, ◌++◌}
 use Rattle.block_region.specs.Space.{Space}
 use Rattle.frozen_model.specs.Bits.{digits}
-use Rattle.typed_tree.specs.Fields.{record_of as record_in, natural}
+use Rattle.typed_tree.specs.Fields.{record_of as record_in, id_numbers}
 use Rattle.typed_tree.specs.Trees.{but_last, last}
 use Rattle.frozen_model.specs.Values.{Value, Number, One, one, record_of, part, no_part}
 use Rattle.frozen_model.specs.Rows.{two_fields, two_numbers}
@@ -55,7 +55,7 @@ pub freeze_into-requires-clause-holds : goal.freeze_into-requires-clause-holds
 freeze_into-requires-clause-holds c d =
     let el = ap (λ (x : Described). x.tree) (d.from_nodes-layouts.ensures.layout (described Version1 false (two_fields (TwosComplement 4) (TwosComplement 1))) (given _ (search (rules, d.in_ok-to_vec.ensures.items_if_clones_equal)))) in
     let two = d.in_ok-int-2.ensures.pushed.trees ∙ ap (λ (r : List Value). r ++ One (Number (negsuc 0)) ∷ []) (d.in_ok-int.ensures.pushed.trees ∙ ap (λ (r : List Value). r ++ One (Number (pos 5)) ∷ []) d.new-builder.ensures.trees) in
-    let three = d.in_ok-structure.ensures.joined.trees ∙ ap (λ (r : List Value). but_last 2 r ++ record_in (natural (pos 1 ∷ pos 2 ∷ [])) (last 2 r) ∷ []) two in
+    let three = d.in_ok-structure.ensures.joined.trees ∙ ap (λ (r : List Value). but_last 2 r ++ record_in (id_numbers (pos 1 ∷ pos 2 ∷ [])) (last 2 r) ∷ []) two in
     let same = sym d.finish-tree.ensures.tree ∙ three in
     let ev : value_of_ref d.top.result ≡ two_numbers (pos 5) (negsuc 0) = d.top.ensures.value ∙ head_same same in
     subst (λ (l : Layout). Holds l (value_of_ref d.top.result)) (sym el) (subst (λ (v : Value). Holds (two_fields (TwosComplement 4) (TwosComplement 1)) v) (sym ev) holds)
@@ -64,7 +64,7 @@ pub freeze_into-requires-clause-left : goal.freeze_into-requires-clause-left
 freeze_into-requires-clause-left c d =
     let el = ap (λ (x : Described). x.tree) (d.from_nodes-layouts.ensures.layout (described Version1 false (two_fields (TwosComplement 4) (TwosComplement 1))) (given _ (search (rules, d.in_ok-to_vec.ensures.items_if_clones_equal)))) in
     let two = d.in_ok-int-2.ensures.pushed.trees ∙ ap (λ (r : List Value). r ++ One (Number (negsuc 0)) ∷ []) (d.in_ok-int.ensures.pushed.trees ∙ ap (λ (r : List Value). r ++ One (Number (pos 5)) ∷ []) d.new-builder.ensures.trees) in
-    let three = d.in_ok-structure.ensures.joined.trees ∙ ap (λ (r : List Value). but_last 2 r ++ record_in (natural (pos 1 ∷ pos 2 ∷ [])) (last 2 r) ∷ []) two in
+    let three = d.in_ok-structure.ensures.joined.trees ∙ ap (λ (r : List Value). but_last 2 r ++ record_in (id_numbers (pos 1 ∷ pos 2 ∷ [])) (last 2 r) ∷ []) two in
     let same = sym d.finish-tree.ensures.tree ∙ three in
     let ev : value_of_ref d.top.result ≡ two_numbers (pos 5) (negsuc 0) = d.top.ensures.value ∙ head_same same in
     let q : bytes_for (stride (layout_of d.from_nodes-layouts.result).tree) + extent (layout_of d.from_nodes-layouts.result).tree (value_of_ref d.top.result) ≡ 1 =

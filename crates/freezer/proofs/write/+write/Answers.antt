@@ -15,11 +15,13 @@ use Rattle.layout_tree.proofs.Children.{item_child, inner_child, node_small}
 use Rattle.layout_tree.proofs.Readings.{same_nodes}
 use Rattle.typed_tree.specs.References.{value_of_ref}
 use Rattle.typed_tree.specs.Parts.{items_of, fields_of}
-use Rattle.freezer.specs.Writing.{Ready, Wrote, height}
-use Rattle.freezer.proofs.Left.{fields_start, fields_step, fields_end, fields_over, pair_first, pair_second, items_start, items_step, items_end, height_nth, height_items, height_fields}
+use Rattle.freezer.specs.Writing.{Ready, Wrote}
+use Rattle.freezer.proofs.Left.{fields_start, fields_step, fields_end, fields_over, pair_first, pair_second, items_start, items_step, items_end}
 use Rattle.freezer.proofs.Stores.{small}
-use Rattle.freezer.proofs.Arms.{flag_at, number_at, wrote_leaf, wrote_absent, present_at, items_at, items_range, items_extent, items_ready, items_done, bytes_at, bytes_extent, bytes_done, items_form, items_kind, row_is, map_is, row_kind, map_kind, byte_is, RangeWrote, present_ready, present_done}
+use Rattle.freezer.proofs.Arms.{flag_at, number_at, wrote_leaf, wrote_absent, present_at, items_at, items_range, items_extent, items_ready, items_done, bytes_at, bytes_extent, bytes_done, byte_is, RangeWrote, present_ready, present_done}
 use Rattle.freezer.proofs.write.+write.Goals as goal
+use Rattle.typed_tree.specs.Heights.{height}
+use Rattle.typed_tree.proofs.Forms.{height_fields, height_items, height_nth, items_form, items_kind, map_is, map_kind, row_is, row_kind}
 
 pub write_fields-loop-child-init : goal.write_fields-loop-child-init
 write_fields-loop-child-init t c =

@@ -6,8 +6,8 @@ use Rattle.layout_tree.specs.Nodes.{at, noted_in}
 use Rattle.layout_tree.specs.Reading.{item_of}
 use Rattle.layout_tree.specs.Listing.{version_of}
 use Rattle.freezer.proofs.Left.{ItemsLeft, FieldsLeft}
-use Rattle.freezer.specs.Writing.{height}
 use Rattle.freezer.proofs.write.+write.Given as goal
+use Rattle.typed_tree.specs.Heights.{height}
 
 abbrev pub decreases-write_part : goal.decreases-write_part
 decreases-write_part l = 2 * height (value_of_ref l.v) + 1

@@ -4,7 +4,8 @@ use Rattle.frozen_model.specs.Packing.{distance}
 use Rattle.frozen_model.specs.Layouts.{stride}
 use Rattle.layout_tree.specs.Nodes.{at}
 use Rattle.layout_tree.specs.Reading.{distance_width, count_width}
-use Rattle.freezer.proofs.Arms.{range_stride, distance_none, distance_some, both_in_one, range_written}
+use Rattle.measure_pass.proofs.Arms.{distance_none, distance_some}
+use Rattle.freezer.proofs.Arms.{range_stride, both_in_one, range_written}
 use Rattle.freezer.proofs.Puts.{put}
 use Rattle.freezer.proofs.write.write_range.Goals as goal
 use Rattle.freezer.proofs.write.write_range.Goals.{then-n-eq0, else-n-eq0}

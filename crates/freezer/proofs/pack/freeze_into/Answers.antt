@@ -9,7 +9,7 @@ use Rattle.layout_tree.proofs.Children.{root_sub, root_node}
 use Rattle.typed_tree.specs.References.{value_of_ref}
 use Rattle.freezer.specs.Writing.{Ready, Wrote}
 use Rattle.freezer.proofs.Whole.{root_ready, whole}
-use Rattle.freezer.proofs.freeze.freeze_into.Goals as goal
+use Rattle.freezer.proofs.pack.freeze_into.Goals as goal
 
 pub bits-bits-requires : goal.bits-bits-requires
 bits-bits-requires c = root_node (tree_of c.args.layouts.now.nodes.items)

@@ -1,0 +1,16 @@
+pub mod Grown
+pub mod Holes
+pub mod Stays
+pub mod Arms
+pub mod Left
+pub mod Codes
+pub mod Whole
+pub mod Within
+pub mod Spotting
+pub mod Running
+pub mod Gathering
+pub mod Ranging
+pub mod Runnables
+pub mod Overall
+pub mod Gathered
+pub mod Measuring

@@ -1,0 +1,324 @@
+use Rattle.std.proofs.Common.{◌≡◌, ◌+◌, ◌<◌, length, arith, ap, sym, ◌∙◌, subst, refl}
+use Rattle.std.proofs.lemmas.Result.{IfOk-weaker}
+use Rattle.frozen_model.specs.Trees.{nodes}
+use Rattle.frozen_model.specs.Values.{count, Of}
+use Rattle.frozen_model.specs.Layouts.{Layout}
+use Rattle.layout_tree.specs.Nodes.{at, noted_in}
+use Rattle.layout_tree.specs.Reading.{item_of, IsLeaf}
+use Rattle.layout_tree.specs.Listing.{sub, tree_of, version_of}
+use Rattle.layout_tree.proofs.Numbers.{number_of_part}
+use Rattle.layout_tree.proofs.Children.{item_child, inner_child, node_small}
+use Rattle.layout_tree.proofs.Readings.{same_nodes}
+use Rattle.typed_tree.specs.Heights.{height}
+use Rattle.typed_tree.specs.References.{value_of_ref}
+use Rattle.typed_tree.specs.Parts.{items_of, fields_of}
+use Rattle.typed_tree.specs.Spots.{pair}
+use Rattle.typed_tree.proofs.Forms.{height_fields, height_items, height_nth, items_form, items_kind, map_is, map_kind, row_is, row_kind}
+use Rattle.measure_pass.specs.Spots.{Gathers, EachGathers}
+use Rattle.measure_pass.proofs.Gathered.{fields_start, fields_step, fields_end, fields_over, pair_first, pair_second, items_start, items_step, items_end, leaves_gathered, item_range_at, optional_at, alone_gathered, alone_kind, bytes_gathered, range_gathered, present_gathered}
+use Rattle.measure_pass.proofs.gather.+gather.Goals as goal
+
+-- ---- fields
+
+pub gather_fields-past-end-requires : goal.gather_fields-past-end-requires
+gather_fields-past-end-requires t c = number_of_part (noted_in c.args.layouts.now) c.args.node c.requires.node
+
+pub gather_fields-loop-child-init : goal.gather_fields-loop-child-init
+gather_fields-loop-child-init t c =
+    let l = c.args.layouts.now in
+    let n = c.args.node in
+    fields_start (noted_in l) (version_of l.version) n c.args.parent (value_of_ref c.args.v) c.args.spots.now.items (n + 1) c.past-end.result c.requires.record (record { node = c.requires.node; is = refl }) c.requires.form (c.past-end.ensures.part c.requires.node) refl
+
+pub gather_fields-field_at-requires : goal.gather_fields-field_at-requires
+gather_fields-field_at-requires t c =
+    let l = c.args.layouts.now in
+    let k = c.loop-child in
+    (fields_step (noted_in l) (version_of l.version) (at l c.args.node) (value_of_ref c.args.v) c.args.node c.args.parent c.args.spots.now.items k.spots.items k.child c.past-end.result k.i k.invariant c.loop-child-test.true).some
+
+pub gather_fields-gather_part-requires : goal.gather_fields-gather_part-requires
+gather_fields-gather_part-requires t c =
+    let l = c.args.layouts.now in
+    let k = c.loop-child in
+    let u = value_of_ref c.args.v in
+    let y = value_of_ref c.field_at.result in
+    let st = fields_step (noted_in l) (version_of l.version) (at l c.args.node) u c.args.node c.args.parent c.args.spots.now.items k.spots.items k.child c.past-end.result k.i k.invariant c.loop-child-test.true in (
+      omega (arith, c.decreases, height_fields u c.requires.record, height_nth (fields_of u) k.i, ap height c.field_at.ensures),
+      (st.node.node, subst (λ (z : Layout). Of z y) (sym st.node.is) (st.form y c.field_at.ensures)),
+    )
+
+pub gather_fields-past-child-requires : goal.gather_fields-past-child-requires
+gather_fields-past-child-requires t c =
+    let l = c.args.layouts.now in
+    let k = c.loop-child in
+    let st = fields_step (noted_in l) (version_of l.version) (at l c.args.node) (value_of_ref c.args.v) c.args.node c.args.parent c.args.spots.now.items k.spots.items k.child c.past-end.result k.i k.invariant c.loop-child-test.true in
+    number_of_part (noted_in l) k.child st.node.node
+
+pub gather_fields-loop-child-preserved : goal.gather_fields-loop-child-preserved
+gather_fields-loop-child-preserved t c =
+    let l = c.args.layouts.now in
+    let k = c.loop-child in
+    let v = version_of l.version in
+    let u = value_of_ref c.args.v in
+    let y = value_of_ref c.field_at.result in
+    let st = fields_step (noted_in l) v (at l c.args.node) u c.args.node c.args.parent c.args.spots.now.items k.spots.items k.child c.past-end.result k.i k.invariant c.loop-child-test.true in
+    let new = c.gather_part.new.spots.items in
+    st.next y c.field_at.ensures new c.past-child.result (subst (λ (z : Layout). Gathers z y k.child c.args.parent k.spots.items new) st.node.is c.in_ok-gather_part.ensures)
+    (c.past-child.ensures.part st.node.node ∙ ap (λ (z : Layout). k.child + nodes z) st.node.is ∙ ap (λ z. k.child + z) (same_nodes v st.here))
+
+pub gather_fields-returns : goal.gather_fields-returns
+gather_fields-returns t c =
+    let l = c.args.layouts.now in
+    let k = c.loop-child in
+    fields_end (noted_in l) (version_of l.version) (at l c.args.node) (value_of_ref c.args.v) c.args.node c.args.parent c.args.spots.now.items k.spots.items k.child c.past-end.result k.i k.invariant c.loop-child-test.false
+
+-- ---- items
+
+pub gather_items-overflow_add-item : goal.gather_items-overflow_add-item
+gather_items-overflow_add-item t c =
+    let l = c.args.layouts.now in
+    omega (arith, node_small l.version l.nodes.items (sub (tree_of l.nodes.items) c.args.node) c.args.node l.listing l.sound c.requires.node)
+
+pub gather_items-is_leaf-requires : goal.gather_items-is_leaf-requires
+gather_items-is_leaf-requires t c =
+    let l = c.args.layouts.now in
+    (item_child (noted_in l) (version_of l.version) c.args.node c.requires.node c.requires.holder).node
+
+pub gather_items-returns-then-is_leaf : goal.gather_items-returns-then-is_leaf
+gather_items-returns-then-is_leaf t c =
+    let l = c.args.layouts.now in
+    let n = c.args.node in
+    let ch = item_child (noted_in l) (version_of l.version) n c.requires.node c.requires.holder in
+    leaves_gathered (item_of (at l n)) (items_of (value_of_ref c.args.v)) (n + 3) c.args.parent c.args.spots.now.items (subst (λ (z : Layout). IsLeaf z) ch.is (c.is_leaf.ensures c.if-is_leaf.true))
+
+pub gather_items-loop-i-init : goal.gather_items-loop-i-init
+gather_items-loop-i-init t c =
+    let l = c.args.layouts.now in
+    items_start (item_of (at l c.args.node)) (items_of (value_of_ref c.args.v)) (c.args.node + 3) c.args.parent c.args.spots.now.items c.requires.form
+
+pub gather_items-gather_part-requires : goal.gather_items-gather_part-requires
+gather_items-gather_part-requires t c =
+    let l = c.args.layouts.now in
+    let n = c.args.node in
+    let m = item_of (at l n) in
+    let all = items_of (value_of_ref c.args.v) in
+    let k = c.loop-i in
+    let u = value_of_ref c.item.result in
+    let lt : k.i < count all = omega (arith, c.len-n.ensures) in
+    let st = items_step m all (n + 3) c.args.parent c.args.spots.now.items k.spots.items k.i u k.invariant lt c.item.ensures in
+    let ch = item_child (noted_in l) (version_of l.version) n c.requires.node c.requires.holder in (
+      omega (arith, c.decreases, height_items (value_of_ref c.args.v) (row_is (value_of_ref c.args.v) c.requires.row), height_nth all k.i, ap height c.item.ensures),
+      (ch.node, subst (λ (z : Layout). Of z u) (sym ch.is) st.form),
+    )
+
+pub gather_items-loop-i-preserved : goal.gather_items-loop-i-preserved
+gather_items-loop-i-preserved t c =
+    let l = c.args.layouts.now in
+    let n = c.args.node in
+    let m = item_of (at l n) in
+    let all = items_of (value_of_ref c.args.v) in
+    let k = c.loop-i in
+    let u = value_of_ref c.item.result in
+    let lt : k.i < count all = omega (arith, c.len-n.ensures) in
+    let st = items_step m all (n + 3) c.args.parent c.args.spots.now.items k.spots.items k.i u k.invariant lt c.item.ensures in
+    let ch = item_child (noted_in l) (version_of l.version) n c.requires.node c.requires.holder in
+    let new = c.gather_part.new.spots.items in
+    st.next new (subst (λ (z : Layout). Gathers z u (n + 3) c.args.parent k.spots.items new) ch.is c.in_ok-gather_part.ensures)
+
+pub gather_items-returns : goal.gather_items-returns
+gather_items-returns t c =
+    let l = c.args.layouts.now in
+    let all = items_of (value_of_ref c.args.v) in
+    let k = c.loop-i in
+    let e : k.i ≡ count all = omega (arith, c.len-n.ensures) in
+    items_end (item_of (at l c.args.node)) all (c.args.node + 3) c.args.parent c.args.spots.now.items k.spots.items k.i k.invariant e
+
+-- ---- pairs
+
+pub gather_pairs-loop-i-init : goal.gather_pairs-loop-i-init
+gather_pairs-loop-i-init t c =
+    let l = c.args.layouts.now in
+    items_start (item_of (at l c.args.node)) (items_of (value_of_ref c.args.v)) (c.args.node + 3) c.args.parent c.args.spots.now.items c.requires.form
+
+pub gather_pairs-overflow_add-node : goal.gather_pairs-overflow_add-node
+gather_pairs-overflow_add-node t c =
+    let l = c.args.layouts.now in
+    omega (arith, node_small l.version l.nodes.items (sub (tree_of l.nodes.items) c.args.node) c.args.node l.listing l.sound c.requires.node)
+
+pub gather_pairs-gather_pair-requires : goal.gather_pairs-gather_pair-requires
+gather_pairs-gather_pair-requires t c =
+    let l = c.args.layouts.now in
+    let n = c.args.node in
+    let m = item_of (at l n) in
+    let all = items_of (value_of_ref c.args.v) in
+    let k = c.loop-i in
+    let u = pair (value_of_ref c.entry.result.0) (value_of_ref c.entry.result.1) in
+    let lt : k.i < count all = omega (arith, c.len-n.ensures) in
+    let st = items_step m all (n + 3) c.args.parent c.args.spots.now.items k.spots.items k.i u k.invariant lt (sym c.entry.ensures) in
+    let ch = item_child (noted_in l) (version_of l.version) n c.requires.node c.requires.holder in (
+      omega (arith, c.decreases, height_items (value_of_ref c.args.v) (map_is (value_of_ref c.args.v) c.requires.map), height_nth all k.i, ap height (sym c.entry.ensures)),
+      (ch.node, subst (λ (z : Layout). Of z u) (sym ch.is) st.form),
+    )
+
+pub gather_pairs-loop-i-preserved : goal.gather_pairs-loop-i-preserved
+gather_pairs-loop-i-preserved t c =
+    let l = c.args.layouts.now in
+    let n = c.args.node in
+    let m = item_of (at l n) in
+    let all = items_of (value_of_ref c.args.v) in
+    let k = c.loop-i in
+    let u = pair (value_of_ref c.entry.result.0) (value_of_ref c.entry.result.1) in
+    let lt : k.i < count all = omega (arith, c.len-n.ensures) in
+    let st = items_step m all (n + 3) c.args.parent c.args.spots.now.items k.spots.items k.i u k.invariant lt (sym c.entry.ensures) in
+    let ch = item_child (noted_in l) (version_of l.version) n c.requires.node c.requires.holder in
+    let new = c.gather_pair.new.spots.items in
+    st.next new (subst (λ (z : Layout). Gathers z u (n + 3) c.args.parent k.spots.items new) ch.is c.in_ok-gather_pair.ensures)
+
+pub gather_pairs-returns : goal.gather_pairs-returns
+gather_pairs-returns t c =
+    let l = c.args.layouts.now in
+    let all = items_of (value_of_ref c.args.v) in
+    let k = c.loop-i in
+    let e : k.i ≡ count all = omega (arith, c.len-n.ensures) in
+    items_end (item_of (at l c.args.node)) all (c.args.node + 3) c.args.parent c.args.spots.now.items k.spots.items k.i k.invariant e
+
+-- ---- a pair
+
+pub gather_pair-overflow_add-first : goal.gather_pair-overflow_add-first
+gather_pair-overflow_add-first t c =
+    let l = c.args.layouts.now in
+    omega (arith, node_small l.version l.nodes.items (sub (tree_of l.nodes.items) c.args.node) c.args.node l.listing l.sound c.requires.node)
+
+pub gather_pair-past-second-requires : goal.gather_pair-past-second-requires
+gather_pair-past-second-requires t c =
+    let l = c.args.layouts.now in
+    let n = c.args.node in
+    let one = pair_first (noted_in l) (version_of l.version) n c.args.parent (value_of_ref c.args.key) (value_of_ref c.args.value) c.args.spots.now.items (record { node = c.requires.node; is = refl }) c.requires.form in
+    number_of_part (noted_in l) (n + 1) one.node.node
+
+pub gather_pair-gather_part-requires : goal.gather_pair-gather_part-requires
+gather_pair-gather_part-requires t c =
+    let l = c.args.layouts.now in
+    let n = c.args.node in
+    let key = value_of_ref c.args.key in
+    let one = pair_first (noted_in l) (version_of l.version) n c.args.parent key (value_of_ref c.args.value) c.args.spots.now.items (record { node = c.requires.node; is = refl }) c.requires.form in
+    (omega (arith, c.decreases), (one.node.node, subst (λ (z : Layout). Of z key) (sym one.node.is) (one.form key refl)))
+
+pub gather_pair-gather_part-requires-2 : goal.gather_pair-gather_part-requires-2
+gather_pair-gather_part-requires-2 t c =
+    let l = c.args.layouts.now in
+    let n = c.args.node in
+    let v = version_of l.version in
+    let key = value_of_ref c.args.key in
+    let value = value_of_ref c.args.value in
+    let one = pair_first (noted_in l) v n c.args.parent key value c.args.spots.now.items (record { node = c.requires.node; is = refl }) c.requires.form in
+    let mid = c.gather_part.new.spots.items in
+    let second = c.past-second.result in
+    let w = subst (λ (z : Layout). Gathers z key (n + 1) c.args.parent c.args.spots.now.items mid) one.node.is c.in_ok-gather_part.ensures in
+    let es : second ≡ n + 1 + nodes one.here = c.past-second.ensures.part one.node.node ∙ ap (λ (z : Layout). n + 1 + nodes z) one.node.is ∙ ap (λ z. n + 1 + z) (same_nodes v one.here) in
+    let left = one.next key refl mid second w es in
+    let two = pair_second (noted_in l) v (at l n) n c.args.parent key value c.args.spots.now.items mid second (n + nodes (at l n)) left in
+    (omega (arith, c.decreases), (two.node.node, subst (λ (z : Layout). Of z value) (sym two.node.is) (two.form value refl)))
+
+pub gather_pair-returns : goal.gather_pair-returns
+gather_pair-returns t c =
+    let l = c.args.layouts.now in
+    let n = c.args.node in
+    let v = version_of l.version in
+    let key = value_of_ref c.args.key in
+    let value = value_of_ref c.args.value in
+    let p = c.args.parent in
+    let old = c.args.spots.now.items in
+    let one = pair_first (noted_in l) v n p key value old (record { node = c.requires.node; is = refl }) c.requires.form in
+    let mid = c.gather_part.new.spots.items in
+    let second = c.past-second.result in
+    let w = subst (λ (z : Layout). Gathers z key (n + 1) p old mid) one.node.is c.in_ok-gather_part.ensures in
+    let es : second ≡ n + 1 + nodes one.here = c.past-second.ensures.part one.node.node ∙ ap (λ (z : Layout). n + 1 + nodes z) one.node.is ∙ ap (λ z. n + 1 + z) (same_nodes v one.here) in
+    let left = one.next key refl mid second w es in
+    let two = pair_second (noted_in l) v (at l n) n p key value old mid second (n + nodes (at l n)) left in
+    let new = c.gather_part-2.new.spots.items in
+    let w2 = subst (λ (z : Layout). Gathers z value second p mid new) two.node.is c.in_ok-gather_part-2.ensures in
+    let last = two.next value refl new (second + nodes two.here) w2 refl in
+    fields_over (noted_in l) v (at l n) (pair key value) n p old new (second + nodes two.here) (n + nodes (at l n)) 2 last refl
+
+-- ---- parts
+
+pub gather_part-gather_items-requires : goal.gather_part-gather_items-requires
+gather_part-gather_items-requires t c =
+    let u = value_of_ref c.args.v in
+    let is = items_kind c.kind-kind.result u c.kind-kind.ensures.form c.in-List.is in
+    let r = item_range_at (at c.args.layouts.now c.args.node) u (items_of u) (items_form u is) c.requires.form in
+    (omega (arith, c.decreases), (c.requires.node, (r.holder, (row_kind c.kind-kind.result u c.kind-kind.ensures.form c.in-List.is c.in_default.not-Map, r.form))))
+
+pub gather_part-gather_pairs-requires : goal.gather_part-gather_pairs-requires
+gather_part-gather_pairs-requires t c =
+    let u = value_of_ref c.args.v in
+    let is = items_kind c.kind-kind.result u c.kind-kind.ensures.form c.in-List.is in
+    let r = item_range_at (at c.args.layouts.now c.args.node) u (items_of u) (items_form u is) c.requires.form in
+    (omega (arith, c.decreases), (c.requires.node, (r.holder, (map_kind c.kind-kind.result u c.kind-kind.ensures.form c.in-Map.is, r.form))))
+
+pub gather_part-overflow_add-node : goal.gather_part-overflow_add-node
+gather_part-overflow_add-node t c =
+    let l = c.args.layouts.now in
+    omega (arith, node_small l.version l.nodes.items (sub (tree_of l.nodes.items) c.args.node) c.args.node l.listing l.sound c.requires.node)
+
+pub gather_part-gather_part-requires : goal.gather_part-gather_part-requires
+gather_part-gather_part-requires t c =
+    let l = c.args.layouts.now in
+    let x = value_of_ref c.inner.result in
+    let p = optional_at (at l c.args.node) (value_of_ref c.args.v) x c.inner.ensures c.requires.form in
+    let ch = inner_child (noted_in l) (version_of l.version) c.args.node p.w p.inner c.requires.node p.is in
+    (omega (arith, c.decreases, ap height c.inner.ensures), (ch.node, subst (λ (z : Layout). Of z x) (sym ch.is) p.form))
+
+pub gather_part-returns-in-Flag : goal.gather_part-returns-in-Flag
+gather_part-returns-in-Flag t c =
+    let u = value_of_ref c.args.v in
+    alone_gathered (at c.args.layouts.now c.args.node) u c.args.node c.args.parent c.args.spots.now.items (alone_kind c.kind-kind.result u c.kind-kind.ensures.form c.in-Flag.is)
+
+pub gather_part-returns-in-Text : goal.gather_part-returns-in-Text
+gather_part-returns-in-Text t c =
+    let u = value_of_ref c.args.v in
+    IfOk-weaker c.add_range.result _ _ (λ x h. bytes_gathered (at c.args.layouts.now c.args.node) u c.bytes.result.now c.args.node c.args.parent c.args.spots.now.items c.add_range.new.spots.items c.bytes.ensures c.requires.form h) c.add_range.ensures
+
+pub gather_part-returns-in_default : goal.gather_part-returns-in_default
+gather_part-returns-in_default t c =
+    let a = at c.args.layouts.now c.args.node in
+    let u = value_of_ref c.args.v in
+    let vs = items_of u in
+    let n = c.args.node in
+    let p = c.args.parent in
+    let is = items_kind c.kind-kind.result u c.kind-kind.ensures.form c.in-List.is in
+    let old = c.args.spots.now.items in
+    let mid = c.add_range-in-List.new.spots.items in
+    let new = c.gather_items.new.spots.items in
+    let here : c.len-here.result ≡ length old = omega (arith, c.len-here.ensures, c.args.spots.now.ok.0) in
+    IfOk-weaker c.gather_items.result _ _
+    (λ x g. range_gathered a u vs c.len.result n p old mid new (items_form u is) c.requires.form c.len.ensures c.in_ok-add_range-in-List.ensures (subst (λ k. EachGathers (item_of a) vs (n + 3) k mid new) here g))
+    c.gather_items.ensures
+
+pub gather_part-returns-in-Map : goal.gather_part-returns-in-Map
+gather_part-returns-in-Map t c =
+    let a = at c.args.layouts.now c.args.node in
+    let u = value_of_ref c.args.v in
+    let vs = items_of u in
+    let n = c.args.node in
+    let p = c.args.parent in
+    let is = items_kind c.kind-kind.result u c.kind-kind.ensures.form c.in-List.is in
+    let old = c.args.spots.now.items in
+    let mid = c.add_range-in-List.new.spots.items in
+    let new = c.gather_pairs.new.spots.items in
+    let here : c.len-here.result ≡ length old = omega (arith, c.len-here.ensures, c.args.spots.now.ok.0) in
+    IfOk-weaker c.gather_pairs.result _ _
+    (λ x g. range_gathered a u vs c.len.result n p old mid new (items_form u is) c.requires.form c.len.ensures c.in_ok-add_range-in-List.ensures (subst (λ k. EachGathers (item_of a) vs (n + 3) k mid new) here g))
+    c.gather_pairs.ensures
+
+pub gather_part-returns-in-Present : goal.gather_part-returns-in-Present
+gather_part-returns-in-Present t c =
+    let l = c.args.layouts.now in
+    let x = value_of_ref c.inner.result in
+    let u = value_of_ref c.args.v in
+    let n = c.args.node in
+    let p = optional_at (at l n) u x c.inner.ensures c.requires.form in
+    let ch = inner_child (noted_in l) (version_of l.version) n p.w p.inner c.requires.node p.is in
+    let old = c.args.spots.now.items in
+    let new = c.gather_part.new.spots.items in
+    IfOk-weaker c.gather_part.result _ _ (λ y g. present_gathered (at l n) u x p.w p.inner n c.args.parent old new p.is c.inner.ensures (subst (λ (z : Layout). Gathers z x (n + 2) c.args.parent old new) ch.is g)) c.gather_part.ensures

@@ -1,0 +1,37 @@
+use Rattle.std.proofs.Common.{◌+◌, ◌*◌, ◌-◌}
+use Rattle.typed_tree.specs.Heights.{height}
+use Rattle.typed_tree.specs.References.{value_of_ref}
+use Rattle.typed_tree.specs.Parts.{items_of}
+use Rattle.typed_tree.specs.Spots.{pair}
+use Rattle.layout_tree.specs.Listing.{version_of}
+use Rattle.layout_tree.specs.Nodes.{at, noted_in}
+use Rattle.layout_tree.specs.Reading.{item_of}
+use Rattle.measure_pass.proofs.Gathered.{ItemsLeft, FieldsLeft}
+use Rattle.measure_pass.proofs.gather.+gather.Given as goal
+
+abbrev pub decreases-gather_part : goal.decreases-gather_part
+decreases-gather_part l = 2 * height (value_of_ref l.v) + 1
+
+abbrev pub decreases-gather_items : goal.decreases-gather_items
+decreases-gather_items l = 2 * height (value_of_ref l.v)
+
+abbrev pub decreases-gather_pairs : goal.decreases-gather_pairs
+decreases-gather_pairs l = 2 * height (value_of_ref l.v)
+
+abbrev pub decreases-gather_pair : goal.decreases-gather_pair
+decreases-gather_pair l = 2 * height (pair (value_of_ref l.key) (value_of_ref l.value))
+
+abbrev pub decreases-gather_fields : goal.decreases-gather_fields
+decreases-gather_fields l = 2 * height (value_of_ref l.v)
+
+abbrev pub invariant-gather_items-loop-i : goal.invariant-gather_items-loop-i
+invariant-gather_items-loop-i l = ItemsLeft (item_of (at l.layouts l.node)) (items_of (value_of_ref l.v)) (l.node + 3) l.parent l.fn.spots.items l.spots.items l.i
+
+abbrev pub invariant-gather_pairs-loop-i : goal.invariant-gather_pairs-loop-i
+invariant-gather_pairs-loop-i l = ItemsLeft (item_of (at l.layouts l.node)) (items_of (value_of_ref l.v)) (l.node + 3) l.parent l.fn.spots.items l.spots.items l.i
+
+abbrev pub invariant-gather_fields-loop-child : goal.invariant-gather_fields-loop-child
+invariant-gather_fields-loop-child l = FieldsLeft (noted_in l.layouts) (version_of l.layouts.version) (at l.layouts l.node) (value_of_ref l.v) l.node l.parent l.fn.spots.items l.spots.items l.child l.end l.i
+
+abbrev pub decreases-gather_fields-loop-child : goal.decreases-gather_fields-loop-child
+decreases-gather_fields-loop-child l = l.end - l.child

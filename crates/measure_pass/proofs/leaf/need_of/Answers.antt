@@ -1,0 +1,29 @@
+use Rattle.std.proofs.Common.{◌≡◌, ℤ, ◌-ℤ◌, nat_abs, ap, sym, ◌∙◌, rules, w32, w64}
+use Rattle.std.proofs.lemmas.Int.{to_z-of_z}
+use mir.Val.{SFits, to_z, of_z}
+use Rattle.frozen_model.specs.Bits.{need_unsigned, need_signed}
+use Rattle.frozen_model.specs.Layouts.{need, width}
+use Rattle.frozen_model.specs.Trees.{Integer, Leaf}
+use Rattle.layout_tree.specs.Listing.{sub, tree_of}
+use Rattle.measure_pass.proofs.Codes.{first_code, second_code}
+use Rattle.measure_pass.proofs.leaf.need_of.Goals as goal
+
+pub returns-then-version-eq1 : goal.returns-then-version-eq1
+returns-then-version-eq1 c k d e =
+    let l = c.args.layouts.now in
+    let x = c.args.x in
+    let code = first_code l.version (sub (tree_of l.nodes.items) c.args.node) k d (ap (of_z w32) (sym c.version.ensures) ∙ c.if-version-eq1.true) e in
+    let f : SFits w64 x = c.ranges.x in
+    c.need_signed.ensures.need ∙ ap need_signed (to_z-of_z w64 x f) ∙ sym (ap (λ q. need q x) code)
+
+pub returns : goal.returns
+returns c k d e =
+    let l = c.args.layouts.now in
+    let x = c.args.x in
+    let b = second_code l.version (sub (tree_of l.nodes.items) c.args.node) k d (λ h. c.if-version-eq1.false (ap (of_z w32) c.version.ensures ∙ h)) e in
+    let base = c.base.ensures (Integer k) b.base (width d) (e ∙ ap (λ q. Leaf (Integer k) q) b.is) in
+    let f : SFits w64 x = c.ranges.x in
+    let g : SFits w64 c.base.result = search rules in
+    let gap = c.abs_diff.ensures ∙ ap (λ z. nat_abs (z -ℤ to_z w64 (of_z w64 c.base.result))) (to_z-of_z w64 x f) ∙ ap (λ z. nat_abs (x -ℤ z)) (to_z-of_z w64 c.base.result g)
+    ∙ ap (λ z. nat_abs (x -ℤ z)) base in
+    c.need_unsigned.ensures.need ∙ ap need_unsigned gap ∙ sym (ap (λ q. need q x) b.is)

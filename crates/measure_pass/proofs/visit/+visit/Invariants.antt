@@ -1,0 +1,36 @@
+use Rattle.std.proofs.Common.{◌+◌, ◌*◌, ◌-◌}
+use Rattle.typed_tree.specs.References.{value_of_ref}
+use Rattle.typed_tree.specs.Parts.{items_of}
+use Rattle.typed_tree.specs.Spots.{pair}
+use Rattle.layout_tree.specs.Nodes.{at}
+use Rattle.layout_tree.specs.Reading.{item_of}
+use Rattle.measure_pass.proofs.Left.{ItemsLeft, FieldsLeft}
+use Rattle.measure_pass.proofs.visit.+visit.Given as goal
+use Rattle.typed_tree.specs.Heights.{height}
+
+abbrev pub decreases-visit_part : goal.decreases-visit_part
+decreases-visit_part l = 2 * height (value_of_ref l.v) + 1
+
+abbrev pub decreases-visit_items : goal.decreases-visit_items
+decreases-visit_items l = 2 * height (value_of_ref l.v)
+
+abbrev pub decreases-visit_pairs : goal.decreases-visit_pairs
+decreases-visit_pairs l = 2 * height (value_of_ref l.v)
+
+abbrev pub decreases-visit_pair : goal.decreases-visit_pair
+decreases-visit_pair l = 2 * height (pair (value_of_ref l.key) (value_of_ref l.value))
+
+abbrev pub invariant-visit_pairs-loop-i : goal.invariant-visit_pairs-loop-i
+invariant-visit_pairs-loop-i l = ItemsLeft (item_of (at l.fn.layouts l.node)) (items_of (value_of_ref l.v)) l.fn.layouts l.layouts (l.node + 3) l.from l.next l.i
+
+abbrev pub decreases-visit_fields : goal.decreases-visit_fields
+decreases-visit_fields l = 2 * height (value_of_ref l.v)
+
+abbrev pub invariant-visit_items-loop-i : goal.invariant-visit_items-loop-i
+invariant-visit_items-loop-i l = ItemsLeft (item_of (at l.fn.layouts l.node)) (items_of (value_of_ref l.v)) l.fn.layouts l.layouts (l.node + 3) l.from l.next l.i
+
+abbrev pub invariant-visit_fields-loop-child : goal.invariant-visit_fields-loop-child
+invariant-visit_fields-loop-child l = FieldsLeft (at l.fn.layouts l.node) (value_of_ref l.v) l.fn.layouts l.layouts l.node l.from l.next l.child l.end l.i
+
+abbrev pub decreases-visit_fields-loop-child : goal.decreases-visit_fields-loop-child
+decreases-visit_fields-loop-child l = l.end - l.child

@@ -16,7 +16,7 @@ use Rattle.compact_wire.specs.Canon.{nodes_count, pairs_count, byte_of, sequence
 -- ---- numbers
 
 -- a number that has so many digits has them, at the shortest
-front_digit : (n : ℕ) (rest : List ℕ) → 128 ≤ n → IsVarint rest (n / 128) → IsVarint ((n % 128 + 128) ∷ rest) n
+pub front_digit : (n : ℕ) (rest : List ℕ) → 128 ≤ n → IsVarint rest (n / 128) → IsVarint ((n % 128 + 128) ∷ rest) n
 front_digit n [] le is = absurd is
 front_digit n (c ∷ rest) le is = (omega arith, omega arith, n / 128, omega arith, is)
 

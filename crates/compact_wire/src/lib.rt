@@ -29,7 +29,7 @@ pub use scalars::{read_eight, read_taken};
 pub use thin::{ThinFault, read_thin};
 pub use whole::read_wire;
 pub use wire::Wire;
-pub use writing::write_wire;
+pub use writing::{push_binary, push_field_header, push_sequence_header, write_wire};
 
 #[cfg(test)]
 mod tests;

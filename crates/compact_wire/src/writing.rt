@@ -22,8 +22,9 @@ pub fn write_wire(alloc: Global, wire: &Wire) -> Result<Vec<u8>, AllocError>
     Ok(out)
 }
 
-/// The header of a list or a set.
-fn push_sequence_header(out: &mut Vec<u8>, code: u8, count: usize) -> Result<(), AllocError>
+/// Appends the header of a list or a set of so many items, by the code of their type: one byte where they are fewer than
+/// 15, and else a byte and their number. After a want of memory `out` may have bytes of it at its end.
+pub fn push_sequence_header(out: &mut Vec<u8>, code: u8, count: usize) -> Result<(), AllocError>
     requires { code < 16 }
     ensures { OnOk result (out.new.items ≡ out.old.items ++ sequence_header code count) }
 {
@@ -35,8 +36,9 @@ fn push_sequence_header(out: &mut Vec<u8>, code: u8, count: usize) -> Result<(),
     push_number(out, count as u64)
 }
 
-/// The header of a field.
-fn push_field_header(
+/// Appends the header of a field behind the field of the id before: one byte where the id rises by 1 to 15, and else the
+/// code and the id. After a want of memory `out` may have bytes of it at its end.
+pub fn push_field_header(
     out: &mut Vec<u8>,
     before: FieldBefore,
     id: i16,
@@ -75,8 +77,8 @@ fn field_code(wire: &Wire) -> u8
     }
 }
 
-/// A length and the bytes.
-fn push_binary(out: &mut Vec<u8>, bytes: &[u8]) -> Result<(), AllocError>
+/// Appends a length and the bytes. After a want of memory `out` may have bytes of it at its end.
+pub fn push_binary(out: &mut Vec<u8>, bytes: &[u8]) -> Result<(), AllocError>
     ensures { OnOk result (out.new.items ≡ out.old.items ++ (shortest (length bytes.now) ++ bytes.now)) }
 {
     push_number(out, bytes.len() as u64)?;

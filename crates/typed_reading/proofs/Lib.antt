@@ -1,0 +1,18 @@
+pub mod Order
+pub mod LeastLaws
+pub mod Steps
+pub mod Leaves
+pub mod Rows
+pub mod Maps
+pub mod Tables
+pub mod Structs
+pub mod Parts
+pub mod Keyed
+pub mod FieldLaws
+pub mod TextLaws
+pub mod TypeLaws
+pub mod Fails
+mod WorkedRows
+pub mod Spelled
+pub mod Answering
+pub mod Valued

@@ -1,0 +1,15 @@
+use Rattle.std.proofs.Common.{◌≡◌, ◌+◌, ◌-◌, ◌≤◌, length, []}
+use Rattle.compact_wire.specs.Reads.{items, value}
+use Rattle.idl_parse.specs.Refs.{type_of_ref}
+use Rattle.exact_reading.specs.Reading.{seen}
+use Rattle.key_order.specs.Entries.{placed}
+use Rattle.typed_reading.specs.Progress.{after_keys}
+use Rattle.typed_reading.specs.Marks.{Climbs}
+use Rattle.typed_reading.proofs.keys.check_set_items.Given as goal
+
+abbrev pub invariant-loop : goal.invariant-loop
+invariant-loop l =
+    (seen (after_keys (type_of_ref l.ty) (l.known, placed l.keys.items)) (items (value l.levels l.kind) (l.count - l.counter) l.rest)
+    ≡ seen (after_keys (type_of_ref l.ty) (l.initial.known, [])) (items (value l.levels l.kind) l.count l.bytes))
+    × (l.known.next + length l.rest ≤ l.initial.known.next + length l.bytes)
+    × Climbs 0 l.known.next (placed l.keys.items)

@@ -1,0 +1,16 @@
+//! Structs of the wire read as types of a definition: whether bytes spell a value, or what is wrong with them.
+#![tactic(auto)]
+
+mod checking;
+mod fault;
+mod fields;
+mod keys;
+mod laws;
+mod progress;
+mod texts;
+mod types;
+mod whole;
+
+pub use fault::{Found, NodeFault, ValueFault};
+pub use laws::{least_fault_is_least, typed_is_a_value};
+pub use whole::find_fault;

@@ -1,0 +1,87 @@
+//! A whole struct read as a type.
+
+ghost use Rattle.std.specs.Prelude.{◌≡◌, ◌-◌, IfOk, IfErr};
+ghost use Rattle.compact_wire.specs.Node.{Node};
+ghost use Rattle.compact_wire.specs.Spells.{SpellsWire};
+ghost use Rattle.idl_profile.specs.Types.{kind_of};
+ghost use Rattle.idl_profile.specs.declared.kinds.TypeKind.{TypeKind};
+ghost use Rattle.idl_parse.specs.Refs.{type_of_ref};
+ghost use Rattle.type_kinds.specs.Accepted.{IsAccepted};
+ghost use Rattle.type_kinds.specs.Laws.{Any};
+ghost use Rattle.typed_reading.specs.Answers.{fault_at, IsUnread, IsCaused, IsOnlyCaused};
+ghost use Rattle.typed_reading.specs.Progress.{start, after};
+
+use crate::checking::check_struct;
+use crate::fault::{Found, NodeFault, ValueFault};
+use crate::progress::Progress;
+use compact_wire::WireFault;
+use exact_reading::{ReadError, Stop};
+use idl_parse::TypeRef;
+use std::alloc::Global;
+
+/// What is known behind the struct that the bytes spell, all of them, read as a struct's type.
+fn check_whole(alloc: Global, ty: TypeRef<'_>, bytes: &[u8]) -> Result<Progress, ValueFault>
+    requires is_struct { kind_of (type_of_ref ty) ≡ TypeKind.Struct }
+    requires accepted { IsAccepted Any (type_of_ref ty) }
+    ensures known { IfOk result (λ p. (w : Node) × SpellsWire w bytes.now × (p ≡ after (type_of_ref ty.entry) start w)) }
+    ensures refused { IfErr result (IsUnread bytes.now) }
+{
+    let start = Progress {
+        found: None,
+        next: 0,
+    };
+    let mut marks = Vec::new(alloc);
+    match check_struct(alloc, ty, 63, bytes, start, &mut marks) {
+        Ok((last, rest)) => {
+            if rest.is_empty() {
+                Ok(last)
+            } else {
+                Err(ValueFault::Wire(WireFault::Trailing(place(bytes.len(), rest.len()))))
+            }
+        }
+        Err(ReadError::NoMemory) => Err(ValueFault::NoMemory),
+        Err(ReadError::Stop(Stop::Ended)) => Err(ValueFault::Wire(WireFault::Truncated)),
+        Err(ReadError::Stop(Stop::Refused(left))) => {
+            Err(ValueFault::Wire(WireFault::Malformed(place(bytes.len(), left))))
+        }
+    }
+}
+
+fn place(len: usize, left: usize) -> u64
+    ensures { result ≡ len - left }
+{
+    len.saturating_sub(left) as u64
+}
+
+/// The fault of a value at a node.
+fn fault_of(found: Found) -> ValueFault
+    ensures { result ≡ fault_at found.node found.fault }
+{
+    let node = found.node;
+    match found.fault {
+        NodeFault::RepeatedField => ValueFault::RepeatedField { node },
+        NodeFault::MissingRequired(field) => ValueFault::MissingRequired { node, field },
+        NodeFault::WrongType => ValueFault::WrongType { node },
+        NodeFault::BadText => ValueFault::BadText { node },
+        NodeFault::RepeatedKey => ValueFault::RepeatedKey { node },
+    }
+}
+
+/// Whether the bytes spell a struct, all of them, that is a value of the type; else why not: the fault of the spelling,
+/// and where there is none, the fault of the least node, and there the one of the least number. It takes memory for marks
+/// of the fields of the structs around a value, and for the keys of the sets and maps around it.
+pub fn find_fault(alloc: Global, ty: TypeRef<'_>, bytes: &[u8]) -> Result<(), ValueFault>
+    requires is_struct { kind_of (type_of_ref ty) ≡ TypeKind.Struct }
+    // Each answer has its cause.
+    ensures cause { IsCaused (type_of_ref ty.entry) bytes.now result }
+    // Where the cause of an answer holds, it is the answer, unless memory runs out.
+    ensures only { IsOnlyCaused (type_of_ref ty.entry) bytes.now result }
+{
+    match check_whole(alloc, ty, bytes) {
+        Ok(known) => match known.found {
+            Some(found) => Err(fault_of(found)),
+            None => Ok(()),
+        },
+        Err(fault) => Err(fault),
+    }
+}

@@ -1,0 +1,13 @@
+pub mod Steps
+pub mod Held
+pub mod Exact
+pub mod Sures
+pub mod Leaves
+pub mod ByteRanges
+pub mod Parts
+pub mod Walks
+pub mod Opening
+pub mod KeyOrders
+pub mod SetForms
+pub mod MapForms
+pub mod Noting

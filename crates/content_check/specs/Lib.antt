@@ -1,0 +1,6 @@
+pub mod Opened
+pub mod Agreeing
+pub mod Sure
+pub mod Facts
+pub mod Steps
+pub mod Nodes

@@ -1,0 +1,6 @@
+pub mod Spots
+pub mod Places
+pub mod Alike
+pub mod Spelled
+pub mod Wires
+mod WorkedRows

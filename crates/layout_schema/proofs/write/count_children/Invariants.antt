@@ -1,0 +1,16 @@
+use Rattle.std.proofs.Common.{◌-◌, ◌≡◌, suc, drop, ◌+◌, ◌<◌}
+use Rattle.compact_wire.specs.Canon.{pairs_count}
+use Rattle.layout_tree.specs.Nodes.{listed}
+use Rattle.layout_schema.specs.Wired.{children}
+use Rattle.layout_schema.proofs.write.count_children.Given as goal
+
+-- the children that are counted and those that are left
+abbrev pub invariant-loop-child : goal.invariant-loop-child
+invariant-loop-child l = record {
+  behind : l.node < l.child;
+  counted : l.count + pairs_count (children l.node l.child (drop l.child (listed l.layouts)))
+      ≡ pairs_count (children l.node (suc l.node) (drop (suc l.node) (listed l.layouts)));
+}
+
+abbrev pub decreases-loop-child : goal.decreases-loop-child
+decreases-loop-child l = l.end - l.child

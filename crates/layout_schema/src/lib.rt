@@ -1,0 +1,12 @@
+//! The schema of a layout: what a frozen file says of its layout, as a struct in Compact Protocol.
+#![tactic(auto)]
+
+mod fault;
+mod pieces;
+mod write;
+
+pub use fault::SchemaFault;
+pub use write::write_schema;
+
+#[cfg(test)]
+mod tests;

@@ -109,6 +109,10 @@ left_err g (Err c) d h = let same : c ≡ d = cc in ap Err same
 
 -- ---- texts
 
+pub read_binary : (b : List ℕ) (n : ℕ) (rest x more : List ℕ) → number 4 most_bytes b ≡ Ok (n, rest) → taken n rest ≡ Ok (x, more) → scalar k.Binary b ≡ Ok (binary x, more)
+unfolding scalar
+read_binary b n rest x more h e = rw (h, e) refl
+
 module _ (s : Progress) (b : List ℕ) where
   pub text_number_err : (d : Stop) → number 4 most_bytes b ≡ Err d → seen (after text s) (scalar k.Binary b) ≡ Err d
   unfolding scalar
@@ -118,19 +122,15 @@ module _ (s : Progress) (b : List ℕ) where
   unfolding scalar
   text_taken_err n rest d h e = rw (h, e) refl
 
-  read_binary : (n : ℕ) (rest x more : List ℕ) → number 4 most_bytes b ≡ Ok (n, rest) → taken n rest ≡ Ok (x, more) → scalar k.Binary b ≡ Ok (binary x, more)
-  unfolding scalar
-  read_binary n rest x more h e = rw (h, e) refl
-
   pub text_fine : (n : ℕ) (rest x more : List ℕ) → number 4 most_bytes b ≡ Ok (n, rest) → taken n rest ≡ Ok (x, more) → is_utf8 x ≡ true → seen (after text s) (scalar k.Binary b) ≡ Ok (inside s, more)
   text_fine n rest x more h e u =
       let none : faults (binary x) text s.next ≡ [] = rw u refl in
-      ap (seen (after text s)) (read_binary n rest x more h e) ∙ ap (λ (p : Progress). Ok (p, more)) (on_none s (faults (binary x) text s.next) 1 none)
+      ap (seen (after text s)) (read_binary b n rest x more h e) ∙ ap (λ (p : Progress). Ok (p, more)) (on_none s (faults (binary x) text s.next) 1 none)
 
   pub text_bad : (n : ℕ) (rest x more : List ℕ) → number 4 most_bytes b ≡ Ok (n, rest) → taken n rest ≡ Ok (x, more) → is_utf8 x ≡ false → seen (after text s) (scalar k.Binary b) ≡ Ok (with s BadText (s.next + 1), more)
   text_bad n rest x more h e u =
       let one : faults (binary x) text s.next ≡ here s.next BadText ∷ [] = rw u refl in
-      ap (seen (after text s)) (read_binary n rest x more h e) ∙ ap (λ (p : Progress). Ok (p, more)) (on_one s (faults (binary x) text s.next) 1 (here s.next BadText) one)
+      ap (seen (after text s)) (read_binary b n rest x more h e) ∙ ap (λ (p : Progress). Ok (p, more)) (on_one s (faults (binary x) text s.next) 1 (here s.next BadText) one)
 
 pub is_text : (t : TypeTree) → kind_of t ≡ kinds.Text → t ≡ text
 is_text text e = refl

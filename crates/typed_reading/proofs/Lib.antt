@@ -14,5 +14,9 @@ pub mod TypeLaws
 pub mod Fails
 mod WorkedRows
 pub mod Spelled
+mod Sums
+mod Totals
+pub mod CountSteps
 pub mod Answering
+pub mod Checks
 pub mod Valued

@@ -17,10 +17,10 @@ use Rattle.wire_scan.proofs.Seen.{seen_ok, seen_err}
 use Rattle.typed_reading.specs.declared.progress.Progress.{Progress}
 use Rattle.typed_reading.specs.Progress.{start, after}
 
-abbrev struct_bytes : ByteReader Node
+abbrev pub struct_bytes : ByteReader Node
 struct_bytes = and_then (all_fields 63 (value 63)) (λ xs. pure (structure xs))
 
-wire_is : (b : List ℕ) → struct_bytes b ≡ wire b
+pub wire_is : (b : List ℕ) → struct_bytes b ≡ wire b
 unfolding value
 wire_is b = refl
 

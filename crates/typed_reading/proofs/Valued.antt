@@ -54,7 +54,7 @@ use Rattle.typed_reading.specs.Meaning.{given, under, field_value, reading, mean
 
 -- ---- types by their code
 
-data HasCode : ℕ → TypeTree → Type 0 where
+pub data HasCode : ℕ → TypeTree → Type 0 where
   flag_is : HasCode 1 (scalar type.flag)
   i8_is : HasCode 3 (scalar type.i8)
   i16_is : HasCode 4 (scalar type.i16)
@@ -84,7 +84,7 @@ has_code (named (struct_of n fs)) = struct_is n fs
 
 -- ---- no fault
 
-none_of : {X : Type 0} (xs ys : List X) → xs ++ ys ≡ [] → (xs ≡ []) × (ys ≡ [])
+pub none_of : {X : Type 0} (xs ys : List X) → xs ++ ys ≡ [] → (xs ≡ []) × (ys ≡ [])
 none_of [] ys e = (refl, e)
 none_of (x ∷ xs) ys e = absurd cc
 
@@ -103,16 +103,16 @@ code_from t w m =
     subst (λ n. HasCode n t) (sym same) (has_code t)
 
 -- the node meets its type, and what a node of its type may lack it has
-record Clean (t : TypeTree) (w : Node) : Type 0 where
-  coded : HasCode (code_of_node w) t
-  met : meets t w ≡ true
-  whole : inner t w ≡ []
+pub record Clean (t : TypeTree) (w : Node) : Type 0 where
+  pub coded : HasCode (code_of_node w) t
+  pub met : meets t w ≡ true
+  pub whole : inner t w ≡ []
 
-clean_own : (t : TypeTree) (w : Node) (at : ℕ) → all_here at (own t w) ≡ [] → Clean t w
+pub clean_own : (t : TypeTree) (w : Node) (at : ℕ) → all_here at (own t w) ≡ [] → Clean t w
 clean_own t w at h = let o = own_none (meets t w) (inner t w) at h in record { coded = code_from t w o.0; met = o.0; whole = o.1 }
 
 -- and nothing below it has a fault
-clean_below : (t : TypeTree) (w : Node) (at : ℕ) (below : List Found) → with_below t w at below ≡ [] → Clean t w × (below ≡ [])
+pub clean_below : (t : TypeTree) (w : Node) (at : ℕ) (below : List Found) → with_below t w at below ≡ [] → Clean t w × (below ≡ [])
 clean_below t w at below h =
     let parts = none_of (cond (meets t w) below []) (all_here at (own t w)) h in
     let c = clean_own t w at parts.1 in
@@ -160,7 +160,7 @@ signed_byte : (z : ℤ) (b : ℕ) → IsSignedByte z b → InBits 7 z
 signed_byte (pos n) b h = h.0
 signed_byte (negsuc n) b h = h.0
 
-no_double : (t : TypeTree) → HasCode 7 t → ⊥
+pub no_double : (t : TypeTree) → HasCode 7 t → ⊥
 no_double t h = elim h [ ]
 
 whole_text : (t : TypeTree) (b : List ℕ) → inner t (binary b) ≡ [] → bad_text t b ≡ []

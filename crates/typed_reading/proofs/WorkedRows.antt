@@ -11,6 +11,7 @@ use Rattle.compact_wire.specs.Node.{Node, i16, i32, double, binary, list, map, s
 use Rattle.typed_reading.specs.declared.fault.NodeFault.TheVariants.{RepeatedField, MissingRequired, WrongType, RepeatedKey}
 use Rattle.typed_reading.specs.Faults.{faults, here}
 use Rattle.typed_reading.specs.Meaning.{meaning}
+use Rattle.typed_reading.specs.Counts.{count_of, total}
 
 abbrev struct_p : TypeTree
 struct_p = named (struct_of (codes "P") (field_of (pos 1) (codes "x") Plain (scalar i32_type) without (field_of (pos 2) (codes "y") Plain (scalar i32_type) without end)))
@@ -57,3 +58,7 @@ row_value = refl
 -- two items that have the default
 row_cells : cells (kinds_of struct_l) (meaning (structure (field (pos 1) (list 12 (node (structure no_fields) (node (structure no_fields) no_nodes))) no_fields)) struct_l) ≡ 12
 row_cells = refl
+
+-- counted over the tree: their nodes are two for each item, beside the list and the struct around it
+row_total : total (structure (field (pos 1) (list 12 (node (structure no_fields) (node (structure no_fields) no_nodes))) no_fields)) struct_l ≡ count_of 12 6 4
+row_total = refl

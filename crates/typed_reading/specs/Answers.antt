@@ -1,15 +1,19 @@
--- The answers of looking for faults in bytes that are read as a type, and their causes.
-use Rattle.std.specs.Prelude.{◌≡◌, ◌⊎◌, ℕ, List, [], Result, Ok, Err, Some}
+-- The answers of looking for faults in bytes that are read as a type, and of checking them, and their causes.
+use Rattle.std.specs.Prelude.{◌≡◌, ◌⊎◌, ℕ, ◌<◌, ◌≤◌, nat_lt, cond, List, [], Result, Ok, Err, Some}
 use Rattle.compact_wire.specs.declared.fault.WireFault.{WireFault}
 use Rattle.compact_wire.specs.Node.{Node}
 use Rattle.compact_wire.specs.Spells.{SpellsWire}
 use Rattle.wire_scan.specs.Scanned.{IsScanned}
+use Rattle.frozen_model.specs.Values.{cell_limit}
 use Rattle.idl_profile.specs.Types.{TypeTree}
+use Rattle.typed_tree.specs.Sizes.{capped}
+use Rattle.typed_reading.specs.declared.counts.Checked.{Checked}
 use Rattle.typed_reading.specs.declared.fault.NodeFault.{NodeFault}
 use Rattle.typed_reading.specs.declared.fault.NodeFault.TheVariants as node
 use Rattle.typed_reading.specs.declared.fault.ValueFault.{ValueFault}
 use Rattle.typed_reading.specs.declared.fault.ValueFault.TheVariants as fault
 use Rattle.typed_reading.specs.Faults.{faults, here, least}
+use Rattle.typed_reading.specs.Counts.{cells_as, checked_as}
 
 -- the fault of a value at a node
 abbrev pub fault_at : ℕ → NodeFault → ValueFault
@@ -34,7 +38,7 @@ IsUnread b (fault.Wire f) = IsScanned b (Err f)
 IsUnread b fault.NoMemory = Unit {0}
 IsUnread b _ = ⊥
 
--- the cause of an answer
+-- the cause of an answer of looking for faults
 abbrev pub IsCaused : TypeTree → List ℕ → Result (Unit {0}) ValueFault → Type 0
 IsCaused t b (Ok u) = (w : Node) × IsValue t b w
 IsCaused t b (Err (fault.Wire f)) = IsScanned b (Err f)
@@ -47,7 +51,7 @@ IsCaused t b (Err (fault.TooManyCells c)) = ⊥
 IsCaused t b (Err fault.NoMemory) = Unit {0}
 
 -- this answer, or that memory ran out
-abbrev pub OrMemory : Result (Unit {0}) ValueFault → Result (Unit {0}) ValueFault → Type 0
+abbrev pub OrMemory : {X : Type 0} → Result X ValueFault → Result X ValueFault → Type 0
 OrMemory r answer = (r ≡ answer) ⊎ (r ≡ Err fault.NoMemory)
 
 -- where a cause holds, its answer is given, or memory ran out
@@ -55,3 +59,22 @@ pub record IsOnlyCaused (t : TypeTree) (b : List ℕ) (r : Result (Unit {0}) Val
   pub wire : (f : WireFault) → IsScanned b (Err f) → OrMemory r (Err (fault.Wire f))
   pub faulty : (n : ℕ) (k : NodeFault) → IsLeastFault t b n k → OrMemory r (Err (fault_at n k))
   pub value : (w : Node) → IsValue t b w → OrMemory r (Ok tt)
+
+-- ---- checking: looking for faults, and then counting
+
+-- the cause of an answer of checking
+abbrev pub IsChecked : TypeTree → List ℕ → Result Checked ValueFault → Type 0
+IsChecked t b (Ok c) = (w : Node) × IsValue t b w × (cells_as t w ≤ cell_limit) × (c ≡ checked_as t w)
+IsChecked t b (Err (fault.TooManyCells n)) = (w : Node) × IsValue t b w × (cell_limit < cells_as t w) × (n ≡ capped (cells_as t w))
+IsChecked t b (Err f) = IsCaused t b (Err f)
+
+-- a count of more cells than the limit is a fault
+abbrev pub limited : Checked → Result Checked ValueFault
+limited c = cond (nat_lt cell_limit c.cells) (Err (fault.TooManyCells c.cells)) (Ok c)
+
+-- where a cause holds, its answer is given, or memory ran out
+pub record IsOnlyChecked (t : TypeTree) (b : List ℕ) (r : Result Checked ValueFault) : Type 0 where
+  pub wire : (f : WireFault) → IsScanned b (Err f) → OrMemory r (Err (fault.Wire f))
+  pub faulty : (n : ℕ) (k : NodeFault) → IsLeastFault t b n k → OrMemory r (Err (fault_at n k))
+  pub too_many : (w : Node) → IsValue t b w → cell_limit < cells_as t w → OrMemory r (Err (fault.TooManyCells (capped (cells_as t w))))
+  pub value : (w : Node) → IsValue t b w → cells_as t w ≤ cell_limit → OrMemory r (Ok (checked_as t w))

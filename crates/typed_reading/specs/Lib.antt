@@ -2,6 +2,7 @@ pub mod Codes
 pub mod Keys
 pub mod Faults
 pub mod Meaning
+pub mod Counts
 pub mod Answers
 pub mod Progress
 pub mod Marks

@@ -53,7 +53,7 @@ pub fn add_marks(marks: &mut Vec<bool>, ty: TypeRef<'_>) -> Result<(), AllocErro
 }
 
 /// Whether the mark at a place above a base is set.
-fn is_marked(marks: &[bool], base: usize, place: u32) -> bool
+pub fn is_marked(marks: &[bool], base: usize, place: u32) -> bool
     ensures { result ≡ slice_index_or (drop base marks.now) place false }
 {
     let place = place as usize;

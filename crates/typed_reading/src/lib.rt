@@ -2,6 +2,8 @@
 #![tactic(auto)]
 
 mod checking;
+mod counting;
+mod counts;
 mod fault;
 mod fields;
 mod keys;
@@ -11,6 +13,7 @@ mod texts;
 mod types;
 mod whole;
 
+pub use counts::Checked;
 pub use fault::{Found, NodeFault, ValueFault};
 pub use laws::{least_fault_is_least, typed_is_a_value};
-pub use whole::find_fault;
+pub use whole::{check, find_fault};

@@ -1,6 +1,6 @@
 //! A whole struct read as a type.
 
-ghost use Rattle.std.specs.Prelude.{◌≡◌, ◌-◌, IfOk, IfErr};
+ghost use Rattle.std.specs.Prelude.{◌≡◌, ◌-◌, IfOk, IfErr, Ok};
 ghost use Rattle.compact_wire.specs.Node.{Node};
 ghost use Rattle.compact_wire.specs.Spells.{SpellsWire};
 ghost use Rattle.idl_profile.specs.Types.{kind_of};
@@ -8,16 +8,22 @@ ghost use Rattle.idl_profile.specs.declared.kinds.TypeKind.{TypeKind};
 ghost use Rattle.idl_parse.specs.Refs.{type_of_ref};
 ghost use Rattle.type_kinds.specs.Accepted.{IsAccepted};
 ghost use Rattle.type_kinds.specs.Laws.{Any};
-ghost use Rattle.typed_reading.specs.Answers.{fault_at, IsUnread, IsCaused, IsOnlyCaused};
+ghost use Rattle.typed_reading.specs.Answers.{fault_at, IsUnread, IsValue, IsCaused, IsOnlyCaused, IsChecked, IsOnlyChecked, OrMemory, limited};
+ghost use Rattle.typed_reading.specs.Counts.{checked_as};
 ghost use Rattle.typed_reading.specs.Progress.{start, after};
 
 use crate::checking::check_struct;
+use crate::counting::count_struct;
+use crate::counts::{Checked, nothing};
 use crate::fault::{Found, NodeFault, ValueFault};
 use crate::progress::Progress;
 use compact_wire::WireFault;
 use exact_reading::{ReadError, Stop};
 use idl_parse::TypeRef;
 use std::alloc::Global;
+
+/// The most cells that a value may have.
+const CELL_LIMIT: u64 = 33_554_432;
 
 /// What is known behind the struct that the bytes spell, all of them, read as a struct's type.
 fn check_whole(alloc: Global, ty: TypeRef<'_>, bytes: &[u8]) -> Result<Progress, ValueFault>
@@ -82,6 +88,60 @@ pub fn find_fault(alloc: Global, ty: TypeRef<'_>, bytes: &[u8]) -> Result<(), Va
             Some(found) => Err(fault_of(found)),
             None => Ok(()),
         },
+        Err(fault) => Err(fault),
+    }
+}
+
+/// A count, or the fault that its cells pass the limit.
+fn within_limit(count: Checked) -> Result<Checked, ValueFault>
+    ensures { result ≡ limited count }
+{
+    if count.cells > CELL_LIMIT {
+        Err(ValueFault::TooManyCells { cells: count.cells })
+    } else {
+        Ok(count)
+    }
+}
+
+/// What is counted over the struct that the bytes spell, where they spell a value of the struct's type. The bytes were read
+/// before, so counting stops for want of memory alone.
+fn count_whole(alloc: Global, ty: TypeRef<'_>, bytes: &[u8]) -> Result<Checked, ValueFault>
+    requires is_struct { kind_of (type_of_ref ty) ≡ TypeKind.Struct }
+    requires accepted { IsAccepted Any (type_of_ref ty) }
+    ensures { (w : Node) → IsValue (type_of_ref ty.entry) bytes.now w
+        → OrMemory result (Ok (checked_as (type_of_ref ty.entry) w)) }
+{
+    let mut marks = Vec::new(alloc);
+    match count_struct(alloc, ty, 63, bytes, nothing(), &mut marks) {
+        Ok((count, _)) => Ok(count),
+        Err(_) => Err(ValueFault::NoMemory),
+    }
+}
+
+/// The count of the value that the bytes spell, if its cells are within the limit.
+fn check_cells(alloc: Global, ty: TypeRef<'_>, bytes: &[u8]) -> Result<Checked, ValueFault>
+    requires is_struct { kind_of (type_of_ref ty) ≡ TypeKind.Struct }
+    requires accepted { IsAccepted Any (type_of_ref ty) }
+    ensures cause { (w : Node) → IsValue (type_of_ref ty.entry) bytes.now w → IsChecked (type_of_ref ty.entry) bytes.now result }
+    ensures only { (w : Node) → IsValue (type_of_ref ty.entry) bytes.now w → IsOnlyChecked (type_of_ref ty.entry) bytes.now result }
+{
+    match count_whole(alloc, ty, bytes) {
+        Ok(count) => within_limit(count),
+        Err(fault) => Err(fault),
+    }
+}
+
+/// The cells of the value of the type that the bytes spell, all of them, and the room that a tree of it takes; else why
+/// they spell none, as `find_fault` tells it, or that the cells are more than 33,554,432.
+pub fn check(alloc: Global, ty: TypeRef<'_>, bytes: &[u8]) -> Result<Checked, ValueFault>
+    requires is_struct { kind_of (type_of_ref ty) ≡ TypeKind.Struct }
+    // Each answer has its cause.
+    ensures cause { IsChecked (type_of_ref ty.entry) bytes.now result }
+    // Where the cause of an answer holds, it is the answer, unless memory runs out.
+    ensures only { IsOnlyChecked (type_of_ref ty.entry) bytes.now result }
+{
+    match find_fault(alloc, ty, bytes) {
+        Ok(()) => check_cells(alloc, ty, bytes),
         Err(fault) => Err(fault),
     }
 }

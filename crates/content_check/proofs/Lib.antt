@@ -1,5 +1,4 @@
 pub mod Steps
-pub mod Held
 pub mod Exact
 pub mod Sures
 pub mod Leaves

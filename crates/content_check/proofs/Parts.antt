@@ -1,90 +1,15 @@
--- Kinds of parts, and the fields that are left.
-use Rattle.std.proofs.Common.{◌≡◌, ◌⊎◌, inl, inr, ℕ, suc, ◌+◌, ◌≤◌, ◌<◌, arith, refl, ap, sym, ◌∙◌, subst, true, false}
-use Rattle.frozen_model.specs.Trees.{Whole, Flag, Integer, I8, I16, I32, I64, Text, Binary, AList, ASet, AMap, Leaf, ByteRange, ItemRange, Optional, Struct, NoField, Field, nodes, nodes_all, Part}
+-- Kinds of parts, and what of their fields is left.
+use Rattle.std.proofs.Common.{◌≡◌, ◌⊎◌, inl, inr, ℕ, ◌+◌, refl, sym, subst, true, false}
+use Rattle.frozen_model.specs.Trees.{Whole, Flag, Integer, I8, I16, I32, I64, Text, Binary, AList, ASet, AMap}
+use Rattle.frozen_model.specs.Trees.{Leaf, ByteRange, ItemRange, Optional, Struct, nodes}
 use Rattle.frozen_model.specs.Values.{inline_cells, inline_cells_all}
-use Rattle.frozen_model.specs.Layouts.{Version, Layout, Layouts, Coded}
+use Rattle.frozen_model.specs.Layouts.{Version, Layout, Coded}
 use Rattle.layout_tree.specs.declared.node.Kind.{Kind}
 use Rattle.layout_tree.specs.declared.node.Kind.TheVariants as kinds
-use Rattle.layout_tree.specs.Listing.{Noted, AllNoted, layout_in, layouts_in, sub}
+use Rattle.layout_tree.specs.Listing.{AllNoted, layouts_in}
 use Rattle.layout_tree.specs.Reading.{plain, kind_at, IsLeaf, IsHolder, IsOptional, IsStruct, item_of}
-use Rattle.layout_tree.proofs.Place.{some_nodes}
-use Rattle.layout_tree.proofs.Readings.{same_nodes_all}
-use Rattle.layout_tree.proofs.Children.{Child, FieldsAt, struct_at, first_child, later_children}
 use Rattle.content_check.specs.Steps.{IsByteRange, IsList, IsSet, IsMap}
 use Rattle.content_check.specs.Sure.{IsSure, AllSure, AlwaysIn}
-
--- ---- fields that are left
-
-pub record Left (t : Noted) (v : Version) (top child end : ℕ) (P : AllNoted → Type 0) : Type 0 where
-  pub fs : AllNoted
-  pub parts : FieldsAt t child fs
-  pub ends : end ≡ child + nodes_all fs
-  pub below : nodes_all fs < top
-  pub holds : P fs
-
-pub record LeftStep (t : Noted) (v : Version) (top child end : ℕ) (P Q : AllNoted → Type 0) : Type 0 where
-  pub id : ℕ
-  pub here : Noted
-  pub rest : AllNoted
-  pub node : Child t v child (layout_in v here)
-  pub past : child + nodes here ≤ end
-  pub some : 1 ≤ nodes here
-  pub below : nodes here < top
-  pub holds : P (Field id here rest)
-  pub next : (child2 : ℕ) → child2 ≡ child + nodes here → Q rest → Left t v top child2 end Q
-
-pub left_step : (t : Noted) (v : Version) (top child end : ℕ) (P Q : AllNoted → Type 0) → Left t v top child end P → child < end → LeftStep t v top child end P Q
-left_step t v top child end P Q l lt = go l.fs l.parts l.ends l.below l.holds
-  where
-    go : (fs : AllNoted) → FieldsAt t child fs → end ≡ child + nodes_all fs → nodes_all fs < top → P fs → LeftStep t v top child end P Q
-    go NoField parts ends below h = absurd (omega arith)
-    go (Field id f fs) parts ends below h = record {
-      id = id;
-      here = f;
-      rest = fs;
-      node = first_child t v child id f fs parts;
-      past = omega (arith, ends);
-      some = some_nodes f;
-      below = omega (arith, below);
-      holds = h;
-      next = λ child2 e q. record {
-        fs = fs;
-        parts = subst (λ n. FieldsAt t n fs) (sym e) (later_children t child id f fs parts);
-        ends = omega (arith, ends, e);
-        below = omega (arith, below);
-        holds = q;
-      };
-    }
-
-pub left_end : (t : Noted) (v : Version) (top child end : ℕ) (P : AllNoted → Type 0) → Left t v top child end P → end ≤ child → P NoField
-left_end t v top child end P l le = go l.fs l.ends l.holds
-  where
-    go : (fs : AllNoted) → end ≡ child + nodes_all fs → P fs → P NoField
-    go NoField e h = h
-    go (Field id f fs) e h = absurd (omega (arith, some_nodes f))
-
-pub left_start : (t : Noted) (v : Version) (n child end : ℕ) (P : AllNoted → Type 0) → Part t 0 (sub t n) n → IsStruct (layout_in v (sub t n)) → ((fs : AllNoted) → layout_in v (sub t n) ≡ Struct (layouts_in v fs) → P fs)
-    → end ≡ n + nodes (layout_in v (sub t n)) → child ≡ n + 1 → Left t v (nodes (layout_in v (sub t n))) child end P
-left_start t v n child end P p is h e ec = go (layout_in v (sub t n)) refl is
-  where
-    go : (l : Layout) → layout_in v (sub t n) ≡ l → IsStruct l → Left t v (nodes (layout_in v (sub t n))) child end P
-    go (Struct ls) el is =
-        let st = struct_at t v n ls p el in
-        let all = same_nodes_all v st.fields in
-        let n1 : suc n ≡ child = omega arith in
-        let whole : nodes (layout_in v (sub t n)) ≡ 1 + nodes_all ls = ap nodes el in
-        let each : nodes_all ls ≡ nodes_all st.fields = ap nodes_all (sym st.is) ∙ all in
-        record {
-          fs = st.fields;
-          parts = subst (λ k. FieldsAt t k st.fields) n1 st.there;
-          ends = omega (arith, e, whole, each, ec);
-          below = omega (arith, whole, each);
-          holds = h st.fields (el ∙ ap (λ (z : Layouts). Struct z) (sym st.is));
-        }
-    go (Leaf k c) el is = absurd is
-    go (ByteRange k d c) el is = absurd is
-    go (ItemRange g d c l) el is = absurd is
-    go (Optional w l) el is = absurd is
 
 -- ---- kinds
 
@@ -130,11 +55,13 @@ list_holder (ByteRange k d c) h = absurd h
 list_holder (Optional w l) h = absurd h
 list_holder (Struct ls) h = absurd h
 
-pub struct_shape : (k : Kind) (l : Layout) → IsShape (plain k) l → (k ≡ kinds.Struct) ⊎ (k ≡ kinds.Pair) → IsStruct l
+pub struct_shape : (k : Kind) (l : Layout) → IsShape (plain k) l → (k ≡ kinds.Struct) ⊎ (k ≡ kinds.Pair)
+    → IsStruct l
 struct_shape k l s (inl e) = subst (λ z. IsShape (plain z) l) e s
 struct_shape k l s (inr e) = subst (λ z. IsShape (plain z) l) e s
 
-pub leaf_shape : (k : Kind) (l : Layout) → IsShape (plain k) l → (k ≡ kinds.I8) ⊎ ((k ≡ kinds.I16) ⊎ ((k ≡ kinds.I32) ⊎ ((k ≡ kinds.I64) ⊎ (k ≡ kinds.Size)))) → IsLeaf l
+pub leaf_shape : (k : Kind) (l : Layout) → IsShape (plain k) l → (k ≡ kinds.I8)
+    ⊎ ((k ≡ kinds.I16) ⊎ ((k ≡ kinds.I32) ⊎ ((k ≡ kinds.I64) ⊎ (k ≡ kinds.Size)))) → IsLeaf l
 leaf_shape k l s (inl e) = subst (λ z. IsShape (plain z) l) e s
 leaf_shape k l s (inr (inl e)) = subst (λ z. IsShape (plain z) l) e s
 leaf_shape k l s (inr (inr (inl e))) = subst (λ z. IsShape (plain z) l) e s
@@ -170,7 +97,8 @@ item_nodes (Struct ls) h = absurd h
 pub record SureLeft (v : Version) (l : Layout) (fs : AllNoted) : Type 0 where
   pub then : AllSure (layouts_in v fs) → IsSure l
 
-pub sure_leaf : (l : Layout) → IsLeaf l → ((k : Whole) (c : Coded) → l ≡ Leaf (Integer k) c → AlwaysIn (Integer k) c) → IsSure l
+pub sure_leaf : (l : Layout) → IsLeaf l
+    → ((k : Whole) (c : Coded) → l ≡ Leaf (Integer k) c → AlwaysIn (Integer k) c) → IsSure l
 sure_leaf (Leaf Flag c) h f = λ m lt. refl
 sure_leaf (Leaf (Integer k) c) h f = f k c refl
 sure_leaf (ByteRange k d c) h f = absurd h

@@ -2,7 +2,9 @@
 use Rattle.std.proofs.Common.{◌≡◌, ℕ, ◌≤◌, arith, refl}
 use Rattle.std.proofs.Math.Logic.{∥∥₁_elim}
 use Rattle.std.proofs.Math.Bridge.{le_prop}
-use Rattle.frozen_model.specs.Trees.{AList, ASet, AMap, Tree, Trees, Leaf, ByteRange, ItemRange, Optional, Struct, kinds as kinds_of, kinds_all, IsKey, IsFormed, AllFormed, Part, PartAll, itself, in_item, in_optional, in_struct, in_first, in_later}
+use Rattle.frozen_model.specs.Trees.{AList, ASet, AMap, Tree, Trees, Leaf, ByteRange, ItemRange, Optional}
+use Rattle.frozen_model.specs.Trees.{Struct, kinds as kinds_of, kinds_all, IsKey, IsFormed, AllFormed, Part}
+use Rattle.frozen_model.specs.Trees.{PartAll, itself, in_item, in_optional, in_struct, in_first, in_later}
 use Rattle.frozen_model.specs.Values.{key_of}
 use Rattle.frozen_model.specs.Layouts.{Version, Layout}
 use Rattle.layout_tree.specs.declared.node.FormVersion.{FormVersion}
@@ -15,13 +17,15 @@ use Rattle.content_check.specs.Steps.{IsSet}
 use Rattle.content_check.proofs.Walks.{RangeAt}
 
 mutual
-  pub formed_part : {A B : Type 0} {t s : Tree A B} {i n : ℕ} → Part t i s n → IsFormed (kinds_of t) → IsFormed (kinds_of s)
+  pub formed_part : {A B : Type 0} {t s : Tree A B} {i n : ℕ} → Part t i s n → IsFormed (kinds_of t)
+      → IsFormed (kinds_of s)
   formed_part itself h = h
   formed_part (in_item p) h = formed_part p h.1
   formed_part (in_optional p) h = formed_part p h.1
   formed_part (in_struct p) h = formed_part_all p h.1
 
-  pub formed_part_all : {A B : Type 0} {ts : Trees A B} {s : Tree A B} {i n : ℕ} → PartAll ts i s n → AllFormed (kinds_all ts) → IsFormed (kinds_of s)
+  pub formed_part_all : {A B : Type 0} {ts : Trees A B} {s : Tree A B} {i n : ℕ} → PartAll ts i s n
+      → AllFormed (kinds_all ts) → IsFormed (kinds_of s)
   formed_part_all (in_first p) h = formed_part p h.0
   formed_part_all (in_later p) h = formed_part_all p h.1
 
@@ -31,7 +35,8 @@ key_n (Leaf k c) = 1
 key_n (ByteRange t d c) = 1
 key_n l = 0
 
-set_n : (v : Version) (s : Noted) → IsFormed (kinds_of s) → IsSet (layout_in v s) → 1 ≤ key_n (item_of (layout_in v s))
+set_n : (v : Version) (s : Noted) → IsFormed (kinds_of s) → IsSet (layout_in v s) → 1
+    ≤ key_n (item_of (layout_in v s))
 set_n v (ItemRange ASet d c (Leaf k x)) f h = omega arith
 set_n v (ItemRange ASet d c (ByteRange t x y)) f h = omega arith
 set_n v (ItemRange ASet d c (ItemRange g x y m)) f h = absurd f.0
@@ -51,8 +56,10 @@ is_key (ItemRange g d c m) h = absurd (omega arith)
 is_key (Optional w m) h = absurd (omega arith)
 is_key (Struct ls) h = absurd (omega arith)
 
-pub set_key : (e : FormVersion) (t s : Noted) (n : ℕ) → ∥ IsNotedLayout e t ∥₁ → Part t 0 s n → IsSet (layout_in (version_of e) s) → IsKey (item_of (layout_in (version_of e) s))
-set_key e t s n h p i = is_key (item_of (layout_in (version_of e) s)) (∥∥₁_elim h le_prop (λ x. set_n (version_of e) s (formed_part p x.kind_tree.formed) i))
+pub set_key : (e : FormVersion) (t s : Noted) (n : ℕ) → ∥ IsNotedLayout e t ∥₁ → Part t 0 s n
+    → IsSet (layout_in (version_of e) s) → IsKey (item_of (layout_in (version_of e) s))
+set_key e t s n h p i = is_key (item_of (layout_in (version_of e) s))
+    (∥∥₁_elim h le_prop (λ x. set_n (version_of e) s (formed_part p x.kind_tree.formed) i))
 
 pub set_at : (l : Layout) → IsSet l → RangeAt ASet l
 set_at (ItemRange ASet d c m) h = record { distance = d; count = c; is = refl }

@@ -1,9 +1,11 @@
 -- What a step of the check answers, beside what the walk gives there.
-use Rattle.std.specs.Prelude.{ℕ, ◌+◌, ◌*◌, ◌^◌, ◌≤◌, ◌<◌, ◌≡◌, List, length, Option, Some, None, Result, Ok, Err}
+use Rattle.std.specs.Prelude.{ℕ, ◌+◌, ◌*◌, ◌^◌, ◌≤◌, ◌<◌, ◌≡◌, List, length, Option, Some, None, Result, Ok}
+use Rattle.std.specs.Prelude.{Err}
 use Rattle.frozen_model.specs.Trees.{Holder}
 use Rattle.frozen_model.specs.Values.{Value, Values, cell_limit}
 use Rattle.frozen_model.specs.Layouts.{Layout, stride}
-use Rattle.frozen_model.specs.Walk.{Fault, Short, Long, Distance, Dirty, BadText, KeyOrder, TooManyCells, OutOfRange}
+use Rattle.frozen_model.specs.Walk.{Fault, Short, Long, Distance, Dirty, BadText, KeyOrder, TooManyCells}
+use Rattle.frozen_model.specs.Walk.{OutOfRange}
 use Rattle.frozen_model.specs.Walk.{Walked, walk, walk_each}
 use Rattle.key_order.specs.declared.key.Key.{Key}
 use Rattle.key_order.specs.Keys.{value_of}
@@ -59,7 +61,8 @@ IsAhead bs from (Ok r) = (from.next ≤ r.next) × (r.next ≤ length bs) × (r.
 IsAhead bs from (Err e) = Unit {0}
 
 -- the code answers what the walk gives
-pub record Agrees {V : Type 0} (bs : List ℕ) (w : Walked V) (at : Reach) (r : Result Reach ContentFault) : Type 0 where
+pub record Agrees {V : Type 0} (bs : List ℕ) (w : Walked V) (at : Reach)
+    (r : Result Reach ContentFault) : Type 0 where
   pub same : counted r ≡ without_value w
   pub ahead : IsAhead bs at r
 

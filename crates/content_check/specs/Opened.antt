@@ -5,8 +5,8 @@ use Rattle.frozen_model.specs.Layouts.{Layout}
 use Rattle.frozen_model.specs.Walk.{open_content}
 use Rattle.frozen_laws.specs.Laws.{IsContent}
 
--- the content is opened as a value with so many cells: it is the packing of that value in the layout, which holds the
--- value within the limit of cells
+-- the content is opened as a value with so many cells: it is the packing of that value in the layout, which
+-- holds the value within the limit of cells
 pub record IsOpened (bs : List ℕ) (l : Layout) (cells : ℕ) : Type 0 where
   pub value : Value
   pub opened : open_content bs l ≡ Ok value

@@ -7,7 +7,8 @@ use Rattle.frozen_model.specs.Trees.{Leaf, ByteRange, ItemRange}
 use Rattle.frozen_model.specs.Values.{Value, Items, cell_limit, inline_cells}
 use Rattle.frozen_model.specs.Layouts.{Layout, Coded, stride, width, meaning, in_range}
 use Rattle.frozen_model.specs.Packing.{bytes_for}
-use Rattle.frozen_model.specs.Walk.{Fault, Dirty, Walked, and_then, first_dirty, items_at, walk, walk_each, open_content}
+use Rattle.frozen_model.specs.Walk.{Fault, Dirty, Walked, and_then, first_dirty, items_at, walk, walk_each}
+use Rattle.frozen_model.specs.Walk.{open_content}
 use Rattle.layout_tree.specs.declared.node.Kind.{Kind}
 use Rattle.layout_tree.specs.declared.node.Kind.TheVariants as kinds
 use Rattle.layout_tree.specs.Reading.{kind_at}
@@ -29,7 +30,8 @@ IsZeroOrDirty bs bit n (Err e) = (field bs bit n ≢ 0) × (fault_of e ≡ Dirty
 
 -- ---- numbers
 
--- it is the number at a leaf of whole numbers and in the range of its kind; or there is none, and the number is not
+-- it is the number at a leaf of whole numbers and in the range of its kind; or there is none, and the number
+-- is not
 abbrev pub IsNumberAt : List ℕ → Layout → ℕ → Option ℤ → Type 0
 IsNumberAt bs l bit (Some x) = (k : Whole) (c : Coded) → l ≡ Leaf (Integer k) c
     → (x ≡ meaning c (field bs bit (width c))) × (in_range (Integer k) x ≡ true)

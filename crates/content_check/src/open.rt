@@ -19,8 +19,9 @@ use layout_tree::{Layouts, layouts_are_described};
 /// The most nodes of a layout.
 const MOST_NODES: usize = 4096;
 
-/// Checks that a content is the packing of a value that the layout holds, within the limit of cells, and gives the cells of
-/// that value; otherwise the first fault of the walk. It makes no value and takes no memory.
+/// Checks that a content is the packing of a value that the layout holds, within the limit of cells, and
+/// gives the cells of that value; otherwise the first fault of the walk. It makes no value and takes no
+/// memory.
 pub fn check_content(layouts: &Layouts, content: &[u8]) -> Result<u64, ContentFault>
     requires { length content.now < 2 ^ 56 }
     ensures content { IfOk result (λ c. IsOpened content.now (layout_of layouts.now).tree c) }

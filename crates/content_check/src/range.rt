@@ -32,7 +32,8 @@ pub(crate) fn read_range(
     requires range { IsRange (at layouts.now node) }
     requires here { IsHere content.now (at layouts.now node) start bit reach }
     ensures goes_on { let l = at layouts.now node in (go : ℕ → Walked Value)
-        → range_at content.now (distance_width l) (count_width l) start bit reach.next go ≡ goes_on result go }
+        → range_at content.now (distance_width l) (count_width l) start bit reach.next go
+        ≡ goes_on result go }
     ensures few { IfOk result (λ n. n < 2 ^ 32) }
 {
     let distance_bits = layouts.distance_bits(node);

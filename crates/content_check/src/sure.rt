@@ -1,6 +1,6 @@
 //! Parts in which nothing can fail.
 
-ghost use Rattle.std.specs.Prelude.{◌≡◌, ◌-◌, ◌^◌, ◌≤◌, true};
+ghost use Rattle.std.specs.Prelude.{◌≡◌, true};
 ghost use Rattle.frozen_model.specs.Trees.{Whole, Integer, Leaf};
 ghost use Rattle.frozen_model.specs.Layouts.{Coded};
 ghost use Rattle.layout_tree.specs.Nodes.{IsNode, at};
@@ -8,19 +8,8 @@ ghost use Rattle.layout_tree.specs.Reading.{IsStruct, IsLeaf};
 ghost use Rattle.content_check.specs.Sure.{IsSure, AlwaysIn};
 
 use crate::leaf::{above_base, greatest_of};
+use bit_field::ones;
 use layout_tree::{Kind, Layouts};
-
-#[inline]
-fn greatest_stored(width: u32) -> u64
-    requires { width ≤ 64 }
-    ensures { result ≡ 2 ^ width - 1 }
-{
-    if width < 64 {
-        (1 << width) - 1
-    } else {
-        u64::MAX
-    }
-}
 
 /// Whether no number that a leaf of whole numbers can have is outside the range of its kind.
 fn stays_in_range(layouts: &Layouts, node: u32) -> bool
@@ -30,7 +19,7 @@ fn stays_in_range(layouts: &Layouts, node: u32) -> bool
         → at layouts.now node ≡ Leaf (Integer k) c → AlwaysIn (Integer k) c }
 {
     if layouts.version() == 2 {
-        let most = greatest_stored(layouts.bits(node));
+        let most = ones(layouts.bits(node));
         match above_base(layouts.base(node), most, greatest_of(layouts.kind(node))) {
             Some(_) => true,
             None => false,

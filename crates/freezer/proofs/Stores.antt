@@ -1,14 +1,16 @@
 -- What leaves store, in numbers.
 use mir.Val.{of_z}
 use Rattle.layout_tree.specs.Listing.{version_number}
-use Rattle.std.proofs.Common.{w32, nat_eq, ◌↔◌, Bool, true, false, IsTrue, ◌≡◌, ℕ, suc, ◌+◌, ◌-◌, ◌*◌, ◌/◌, ◌^◌, ◌≤◌, ◌<◌, ℤ, pos, negsuc, ◌-ℤ◌, ◌≤ℤ◌, ◌<ℤ◌, nat_abs, arith, refl, ap, sym, ◌∙◌, subst}
+use Rattle.std.proofs.Common.{w32, nat_eq, ◌↔◌, Bool, true, false, IsTrue, ◌≡◌, ℕ, suc, ◌+◌, ◌-◌, ◌*◌, ◌/◌}
+use Rattle.std.proofs.Common.{◌^◌, ◌≤◌, ◌<◌, ℤ, pos, negsuc, ◌-ℤ◌, ◌≤ℤ◌, ◌<ℤ◌, nat_abs, arith, refl, ap, sym}
+use Rattle.std.proofs.Common.{◌∙◌, subst}
 use Rattle.std.proofs.lemmas.Int.{ints}
 use Rattle.std.proofs.lemmas.Nat.{pow_pos, pow-add, shr_high}
 use Rattle.frozen_model.specs.Bits.{complement, need_signed}
-use Rattle.frozen_model.specs.Trees.{Whole, Leaf, Integer, ByteRange, ItemRange, Optional, Struct, LeafKind, Flag}
-use Rattle.frozen_model.specs.Layouts.{Version, Version1, Version2, Coded, Unsigned, TwosComplement, FromBase, Layout, Fits, stored, width, stride}
+use Rattle.frozen_model.specs.Trees.{Whole, Leaf, Integer, LeafKind}
+use Rattle.frozen_model.specs.Layouts.{Version, Version1, Version2, Coded, Unsigned, TwosComplement, FromBase}
+use Rattle.frozen_model.specs.Layouts.{Layout, Fits, stored, width, stride}
 use Rattle.frozen_model.proofs.Digits.{digits_below, complement_fits}
-use Rattle.layout_tree.specs.Listing.{Noted, layout_in}
 use Rattle.freezer.specs.Leaves.{StoresAt}
 
 -- whatever the coding, what is stored for a number that fits has the width
@@ -19,30 +21,6 @@ small (FromBase b w) z f = digits_below (nat_abs (z -ℤ b)) w f.wide
 
 pub leaf_same : {k j : LeafKind} {c d : Coded} → ◌≡◌ {A = Layout} (Leaf k c) (Leaf j d) → c ≡ d
 leaf_same e = cc
-
--- the coding of whole numbers in each version
-pub first_code : (v : Version) (s : Noted) (k : Whole) (c : Coded) → v ≡ Version1 → layout_in v s ≡ Leaf (Integer k) c → c ≡ TwosComplement (width c)
-first_code Version2 s k c h i = absurd cc
-first_code Version1 (Leaf Flag x) k c h i = absurd cc
-first_code Version1 (Leaf (Integer j) x) k c h i = let same : TwosComplement x.bits ≡ c = cc in subst (λ d. d ≡ TwosComplement (width d)) same refl
-first_code Version1 (ByteRange t x y) k c h i = absurd cc
-first_code Version1 (ItemRange g x y l) k c h i = absurd cc
-first_code Version1 (Optional x l) k c h i = absurd cc
-first_code Version1 (Struct ls) k c h i = absurd cc
-
-pub record BasedAt (c : Coded) : Type 0 where
-  pub base : ℤ
-  pub is : c ≡ FromBase base (width c)
-
-pub second_code : (v : Version) (s : Noted) (k : Whole) (c : Coded) → v ≡ Version2 → layout_in v s ≡ Leaf (Integer k) c → BasedAt c
-second_code Version1 s k c h i = absurd cc
-second_code Version2 (Leaf Flag x) k c h i = absurd cc
-second_code Version2 (Leaf (Integer j) x) k c h i =
-    let same : FromBase x.base x.bits ≡ c = cc in record { base = x.base; is = subst (λ d. d ≡ FromBase x.base (width d)) same refl }
-second_code Version2 (ByteRange t x y) k c h i = absurd cc
-second_code Version2 (ItemRange g x y l) k c h i = absurd cc
-second_code Version2 (Optional x l) k c h i = absurd cc
-second_code Version2 (Struct ls) k c h i = absurd cc
 
 -- the version where numbers have no base
 pub unbased : (v : Version) (b : Bool) → (IsTrue b ↔ (v ≡ Version2)) → b ≡ false → v ≡ Version1
@@ -71,7 +49,8 @@ pub below_zero : (w : ℕ) (x : ℤ) → x <ℤ pos 0 → need_signed x ≤ w �
 below_zero w (pos n) h k = absurd (omega (arith, ints))
 below_zero w (negsuc n) h k = omega arith
 
-pub neg_room : (w : ℕ) (x y : ℤ) → x <ℤ pos 0 → y ≡ negsuc 0 -ℤ x → w ≤ 64 → need_signed x ≤ w → nat_abs y ≤ 18446744073709551615 / 2 ^ (64 - w)
+pub neg_room : (w : ℕ) (x y : ℤ) → x <ℤ pos 0 → y ≡ negsuc 0 -ℤ x → w ≤ 64 → need_signed x ≤ w → nat_abs y
+    ≤ 18446744073709551615 / 2 ^ (64 - w)
 neg_room w (pos n) y h e le k = absurd (omega (arith, ints))
 neg_room w (negsuc n) y h e le k =
     let is : nat_abs y ≡ n = ap nat_abs e ∙ omega (arith, ints) in
@@ -79,7 +58,8 @@ neg_room w (negsuc n) y h e le k =
     let d : n < 2 ^ w = digits_below n w (omega arith) in
     omega (arith, is, d, ones w le)
 
-pub neg_stored : (w : ℕ) (x y : ℤ) → x <ℤ pos 0 → y ≡ negsuc 0 -ℤ x → w ≤ 64 → need_signed x ≤ w → 18446744073709551615 / 2 ^ (64 - w) - nat_abs y ≡ complement w x
+pub neg_stored : (w : ℕ) (x y : ℤ) → x <ℤ pos 0 → y ≡ negsuc 0 -ℤ x → w ≤ 64 → need_signed x ≤ w
+    → 18446744073709551615 / 2 ^ (64 - w) - nat_abs y ≡ complement w x
 neg_stored w (pos n) y h e le k = absurd (omega (arith, ints))
 neg_stored w (negsuc n) y h e le k =
     let is : nat_abs y ≡ n = ap nat_abs e ∙ omega (arith, ints) in
@@ -89,19 +69,29 @@ pub record Coding (d : Coded) (x : ℤ) (w : ℕ) : Type 0 where
   pub fits : Fits d x
   pub wide : w ≡ width d
 
-pub coding : (l : Layout) (x : ℤ) (w : ℕ) (k : Whole) (d : Coded) → StoresAt l x → w ≡ stride l → l ≡ Leaf (Integer k) d → Coding d x w
-coding l x w k d s e is = record { fits = subst (λ (c : Coded). Fits c x) (leaf_same (sym s.is ∙ is)) s.fits; wide = e ∙ ap stride is }
+pub coding : (l : Layout) (x : ℤ) (w : ℕ) (k : Whole) (d : Coded) → StoresAt l x → w ≡ stride l → l
+    ≡ Leaf (Integer k) d → Coding d x w
+coding l x w k d s e is = record {
+  fits = subst (λ (c : Coded). Fits c x) (leaf_same (sym s.is ∙ is)) s.fits;
+  wide = e ∙ ap stride is;
+}
 
 pub first_need : (d : Coded) (x : ℤ) (w : ℕ) → d ≡ TwosComplement (width d) → Coding d x w → need_signed x ≤ w
 first_need d x w e c = let f = subst (λ (q : Coded). Fits q x) e c.fits in omega (arith, f.wide, c.wide)
 
 pub small_at : (d : Coded) (x : ℤ) (w n : ℕ) → Coding d x w → n ≡ stored d x → n < 2 ^ w
-small_at d x w n c e = let h = subst (λ z. stored d x < 2 ^ z) (sym c.wide) (small d x c.fits) in omega (arith, e, h)
+small_at d x w n c e = let h = subst (λ z. stored d x < 2 ^ z) (sym c.wide) (small d x c.fits) in omega
+    (arith, e, h)
 
-pub first_stored : (d : Coded) (x : ℤ) (w n : ℕ) → d ≡ TwosComplement (width d) → Coding d x w → n ≡ complement w x → n ≡ stored d x
+pub first_stored : (d : Coded) (x : ℤ) (w n : ℕ) → d ≡ TwosComplement (width d) → Coding d x w → n
+    ≡ complement w x → n ≡ stored d x
 first_stored d x w n e c h = h ∙ ap (λ z. complement z x) c.wide ∙ sym (ap (λ q. stored q x) e)
 
 -- a version's number is 2 exactly in version 2
 pub based_is : (v : Version) (n : ℕ) → n ≡ of_z w32 (version_number v) → IsTrue (nat_eq n 2) ↔ (v ≡ Version2)
-based_is Version1 n e = (λ h. let x : false ≡ true = ap (λ k. nat_eq k 2) (sym e) ∙ h in absurd cc, λ h. absurd cc)
+based_is Version1 n e = (
+  λ h. let x : false ≡ true = ap (λ k. nat_eq k 2) (sym e)
+      ∙ h in absurd cc,
+  λ h. absurd cc,
+)
 based_is Version2 n e = (λ h. refl, λ h. ap (λ k. nat_eq k 2) e)

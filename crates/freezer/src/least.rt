@@ -45,9 +45,11 @@ fn measure_alone<L: Ledger>(
     ensures least { IfOk result (λ m. Least (layout_of m.layouts) (value_of_ref v.entry)) }
     ensures version { IfOk result (λ m. (layout_of m.layouts).version ≡ Version2) }
     ensures relaxed { IfOk result (λ m. (layout_of m.layouts).relaxed ≡ true) }
-    ensures kinds { IfOk result (λ m. kinds (layout_of m.layouts).tree ≡ kinds_of (root_of (definition_of def.now))) }
+    ensures kinds { IfOk result (λ m. kinds (layout_of m.layouts).tree
+        ≡ kinds_of (root_of (definition_of def.now))) }
     ensures settled { IfOk result (λ m. IsSettled m.layouts) }
-    ensures length { IfOk result (λ m. m.content_len ≡ packed_length (layout_of m.layouts).tree (value_of_ref v.entry)) }
+    ensures length { IfOk result (λ m. m.content_len
+        ≡ packed_length (layout_of m.layouts).tree (value_of_ref v.entry)) }
 {
     let mut steps = Steps::<L>::new(blank);
     measure(alloc, def, v, &mut steps)
@@ -60,9 +62,11 @@ pub fn freeze(alloc: Global, def: &Definition, v: TreeRef<'_>) -> Result<Frozen,
     ensures least { IfOk result (λ f. Least (layout_of f.layouts) (value_of_ref v.entry)) }
     ensures version { IfOk result (λ f. (layout_of f.layouts).version ≡ Version2) }
     ensures relaxed { IfOk result (λ f. (layout_of f.layouts).relaxed ≡ true) }
-    ensures kinds { IfOk result (λ f. kinds (layout_of f.layouts).tree ≡ kinds_of (root_of (definition_of def.now))) }
+    ensures kinds { IfOk result (λ f. kinds (layout_of f.layouts).tree
+        ≡ kinds_of (root_of (definition_of def.now))) }
     ensures settled { IfOk result (λ f. IsSettled f.layouts) }
-    ensures packed { IfOk result (λ f. Packs (layout_of f.layouts).tree (value_of_ref v.entry) f.content.items) }
+    ensures packed { IfOk result (λ f. Packs (layout_of f.layouts).tree (value_of_ref v.entry)
+        f.content.items) }
 {
     let measured = measure_alone::<Brand>(Blank::new(1), alloc, def, v)?;
     let Measured {

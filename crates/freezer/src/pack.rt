@@ -12,8 +12,8 @@ use block_region::Region;
 use layout_tree::Layouts;
 use typed_tree::TreeRef;
 
-/// Writes the packing of a value that the layout holds into the bytes that are left of a region, exactly so many, and takes
-/// them all. It takes no memory and cannot fail.
+/// Writes the packing of a value that the layout holds into the bytes that are left of a region, exactly so
+/// many, and takes them all. It takes no memory and cannot fail.
 pub fn freeze_into(layouts: &Layouts, v: TreeRef<'_>, region: &mut Region)
     requires holds { Holds (layout_of layouts.now).tree (value_of_ref v) }
     requires left { let l = (layout_of layouts.now).tree in
@@ -21,7 +21,8 @@ pub fn freeze_into(layouts: &Layouts, v: TreeRef<'_>, region: &mut Region)
     ensures taken { region.new.taken ≡ length region.new.bytes }
     ensures length { length region.new.bytes ≡ length region.old.bytes }
     ensures before { take region.old.taken region.new.bytes ≡ take region.old.taken region.old.bytes }
-    ensures packed { Packs (layout_of layouts.now).tree (value_of_ref v.entry) (drop region.old.taken region.new.bytes) }
+    ensures packed { Packs (layout_of layouts.now).tree (value_of_ref v.entry)
+        (drop region.old.taken region.new.bytes) }
 {
     let based = layouts.version() == 2;
     let bits = layouts.bits(0) as usize;

@@ -36,11 +36,14 @@ fn write_range(
     requires after { block.now.start ≤ inner.now.start }
     requires inside { bit + stride (at layouts.now node) ≤ 8 * block.now.len }
     requires small { bit + stride (at layouts.now node) < 2 ^ 56 }
-    requires fits { RangeFits (distance_width (at layouts.now node)) (count_width (at layouts.now node)) n (inner.now.start - block.now.start) }
+    requires fits { RangeFits (distance_width (at layouts.now node)) (count_width (at layouts.now node)) n
+        (inner.now.start - block.now.start) }
     ensures taken { region.new.taken ≡ region.old.taken }
     ensures length { length region.new.bytes ≡ length region.old.bytes }
-    ensures written { (q : ℕ) → Writes (bits_of region.old.bytes) (bits_of region.new.bytes) (8 * block.now.start + bit) (stride (at layouts.now node))
-        (range_bits (distance_width (at layouts.now node)) (count_width (at layouts.now node)) n (inner.now.start - block.now.start)) q 0 [] }
+    ensures written { (q : ℕ) → Writes (bits_of region.old.bytes) (bits_of region.new.bytes)
+        (8 * block.now.start + bit) (stride (at layouts.now node))
+        (range_bits (distance_width (at layouts.now node)) (count_width (at layouts.now node)) n
+        (inner.now.start - block.now.start)) q 0 [] }
 {
     let distance = if n == 0 {
         0
@@ -122,7 +125,8 @@ pub(crate) fn write_part(
     }
 }
 
-// Writes the items of a list, set or map in their block, and their blocks.
+// Writes the items of a list or a set in their block, and their blocks. Items of no bits are written as they
+// stand, since the bits of a region are zero.
 #[cycle(write)]
 fn write_items(
     layouts: &Layouts,
@@ -136,11 +140,16 @@ fn write_items(
     requires node { IsNode layouts.now node }
     requires holder { IsHolder (at layouts.now node) }
     requires row { IsRow (value_of_ref v) }
-    requires ready { EachReady (item_of (at layouts.now node)) (items_of (value_of_ref v)) region.old block.now }
-    ensures { EachWrote (item_of (at layouts.now node)) (items_of (value_of_ref v.entry)) region.old region.new block.now 0 }
+    requires ready { EachReady (item_of (at layouts.now node)) (items_of (value_of_ref v)) region.old
+        block.now }
+    ensures { EachWrote (item_of (at layouts.now node)) (items_of (value_of_ref v.entry)) region.old
+        region.new block.now 0 }
 {
-    let n = v.len();
     let stride = layouts.stride(node) as u64;
+    if stride == 0 {
+        return;
+    }
+    let n = v.len();
     for i in 0..n {
         write_part(
             layouts,
@@ -168,8 +177,10 @@ fn write_pairs(
     requires node { IsNode layouts.now node }
     requires holder { IsHolder (at layouts.now node) }
     requires map { IsMap (value_of_ref v) }
-    requires ready { EachReady (item_of (at layouts.now node)) (items_of (value_of_ref v)) region.old block.now }
-    ensures { EachWrote (item_of (at layouts.now node)) (items_of (value_of_ref v.entry)) region.old region.new block.now 0 }
+    requires ready { EachReady (item_of (at layouts.now node)) (items_of (value_of_ref v)) region.old
+        block.now }
+    ensures { EachWrote (item_of (at layouts.now node)) (items_of (value_of_ref v.entry)) region.old
+        region.new block.now 0 }
 {
     let n = v.len();
     let stride = layouts.stride(node) as u64;
@@ -202,8 +213,10 @@ fn write_pair(
 )
     requires based { IsTrue based ↔ ((layout_of layouts.now).version ≡ Version2) }
     requires node { IsNode layouts.now node }
-    requires ready { Ready (at layouts.now node) (pair (value_of_ref key) (value_of_ref value)) region.old block.now bit }
-    ensures { Wrote (at layouts.now node) (pair (value_of_ref key.entry) (value_of_ref value.entry)) region.old region.new block.now bit }
+    requires ready { Ready (at layouts.now node) (pair (value_of_ref key) (value_of_ref value)) region.old
+        block.now bit }
+    ensures { Wrote (at layouts.now node) (pair (value_of_ref key.entry) (value_of_ref value.entry))
+        region.old region.new block.now bit }
 {
     let first = node + 1;
     write_part(layouts, based, first, key, region, block, bit);

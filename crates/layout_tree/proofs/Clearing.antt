@@ -1,14 +1,19 @@
 -- The nodes of a layout, once they are cleared, are those of the blank layout of its kinds.
-use Rattle.std.proofs.Common.{◌≡◌, ℕ, suc, ◌+◌, pos, List, [], ◌∷◌, ◌++◌, map, true, arith, refl, ap, sym, ◌∙◌, subst}
+use Rattle.std.proofs.Common.{◌≡◌, ℕ, suc, ◌+◌, pos, List, [], ◌∷◌, ◌++◌, map, true, arith, refl, ap, sym}
+use Rattle.std.proofs.Common.{◌∙◌, subst}
 use Rattle.std.proofs.Math.Logic.{∥∥₁_map}
-use Rattle.frozen_model.specs.Trees.{Integer, Flag, I8, I16, I32, I64, Text, Binary, AList, ASet, AMap, Holder, Leaf, ByteRange, ItemRange, Optional, Struct, NoField, Field, KindTree, KindTrees, nodes, nodes_all, kinds as kinds_of, kinds_all}
+use Rattle.frozen_model.specs.Trees.{Integer, Flag, I8, I16, I32, I64, Text, Binary, AList, ASet, AMap}
+use Rattle.frozen_model.specs.Trees.{Holder, Leaf, ByteRange, ItemRange, Optional, Struct, NoField, Field}
+use Rattle.frozen_model.specs.Trees.{KindTree, KindTrees, nodes, nodes_all, kinds as kinds_of, kinds_all}
 use Rattle.frozen_model.specs.Layouts.{Version, Version2, Layout, Layouts, described}
 use Rattle.layout_tree.specs.declared.node.NodeSpec.{NodeSpec}
 use Rattle.layout_tree.specs.declared.node.FormVersion.{FormVersion}
 use Rattle.layout_tree.specs.declared.node.FormVersion.TheVariants.{Second}
 use Rattle.layout_tree.specs.declared.node.Kind.{Kind}
 use Rattle.layout_tree.specs.declared.node.Kind.TheVariants as kinds
-use Rattle.layout_tree.specs.Listing.{Noted, AllNoted, layout_in, layouts_in, settled, tree_of, nodes_of, nodes_of_all, all_nodes, inline, item_struct, size, IsListing, IsNotedLayout, spec}
+use Rattle.layout_tree.specs.Listing.{Noted, AllNoted, layout_in, layouts_in, settled, tree_of, nodes_of}
+use Rattle.layout_tree.specs.Listing.{nodes_of_all, all_nodes, inline, item_struct, size, IsListing}
+use Rattle.layout_tree.specs.Listing.{IsNotedLayout, spec}
 use Rattle.layout_tree.specs.Segments.{IsStructKind}
 use Rattle.layout_tree.specs.Given.{resting}
 use Rattle.layout_tree.specs.Shapes.{blank, all_blank, shape_of, cleared, cleared_wide}
@@ -61,7 +66,8 @@ long_all ls = ap (λ n. n) (all_blank_nodes (kinds_all ls)) ∙ all_kinds_nodes 
     all_kinds_nodes (Field i l ls) = omega (arith, kinds_nodes l, all_kinds_nodes ls)
 
 mutual
-  cleared_nodes : (t : Noted) (sk : Kind) (i p f o : ℕ) → IsStructKind sk → nodes_of (blank (kinds_of t)) sk i p f 0 ≡ map cleared (nodes_of t sk i p f o)
+  cleared_nodes : (t : Noted) (sk : Kind) (i p f o : ℕ) → IsStructKind sk
+      → nodes_of (blank (kinds_of t)) sk i p f 0 ≡ map cleared (nodes_of t sk i p f o)
   cleared_nodes (Leaf Flag c) sk i p f o h = refl
   cleared_nodes (Leaf (Integer I8) c) sk i p f o h = refl
   cleared_nodes (Leaf (Integer I16) c) sk i p f o h = refl
@@ -70,47 +76,74 @@ mutual
   cleared_nodes (ByteRange Text d c) sk i p f o h = refl
   cleared_nodes (ByteRange Binary d c) sk i p f o h = refl
   cleared_nodes (ItemRange AList d c l) sk i p f o h =
-      ap (λ n. spec kinds.List f p 0 (suc (suc (suc i)) + n) 0 (pos 0) ∷ size 1 i (resting 0) 0 ∷ size 2 i (resting 0) 0 ∷ nodes_of (blank (kinds_of l)) (item_struct AList) (suc (suc (suc i))) i 3 0) (long l)
-      ∙ ap (λ r. spec kinds.List f p 0 (suc (suc (suc i)) + nodes l) 0 (pos 0) ∷ size 1 i (resting 0) 0 ∷ size 2 i (resting 0) 0 ∷ r) (cleared_nodes l (item_struct AList) (suc (suc (suc i))) i 3 0 tt)
+      ap (λ n. spec kinds.List f p 0 (suc (suc (suc i)) + n) 0 (pos 0) ∷ size 1 i (resting 0) 0
+      ∷ size 2 i (resting 0) 0 ∷ nodes_of (blank (kinds_of l)) (item_struct AList) (suc (suc (suc i))) i 3
+      0) (long l)
+      ∙ ap (λ r. spec kinds.List f p 0 (suc (suc (suc i)) + nodes l) 0 (pos 0) ∷ size 1 i (resting 0) 0
+      ∷ size 2 i (resting 0) 0 ∷ r) (cleared_nodes l (item_struct AList) (suc (suc (suc i))) i 3 0 tt)
   cleared_nodes (ItemRange ASet d c l) sk i p f o h =
-      ap (λ n. spec kinds.Set f p 0 (suc (suc (suc i)) + n) 0 (pos 0) ∷ size 1 i (resting 0) 0 ∷ size 2 i (resting 0) 0 ∷ nodes_of (blank (kinds_of l)) (item_struct ASet) (suc (suc (suc i))) i 3 0) (long l)
-      ∙ ap (λ r. spec kinds.Set f p 0 (suc (suc (suc i)) + nodes l) 0 (pos 0) ∷ size 1 i (resting 0) 0 ∷ size 2 i (resting 0) 0 ∷ r) (cleared_nodes l (item_struct ASet) (suc (suc (suc i))) i 3 0 tt)
+      ap (λ n. spec kinds.Set f p 0 (suc (suc (suc i)) + n) 0 (pos 0) ∷ size 1 i (resting 0) 0
+      ∷ size 2 i (resting 0) 0 ∷ nodes_of (blank (kinds_of l)) (item_struct ASet) (suc (suc (suc i))) i 3
+      0) (long l)
+      ∙ ap (λ r. spec kinds.Set f p 0 (suc (suc (suc i)) + nodes l) 0 (pos 0) ∷ size 1 i (resting 0) 0
+      ∷ size 2 i (resting 0) 0 ∷ r) (cleared_nodes l (item_struct ASet) (suc (suc (suc i))) i 3 0 tt)
   cleared_nodes (ItemRange AMap d c l) sk i p f o h =
-      ap (λ n. spec kinds.Map f p 0 (suc (suc (suc i)) + n) 0 (pos 0) ∷ size 1 i (resting 0) 0 ∷ size 2 i (resting 0) 0 ∷ nodes_of (blank (kinds_of l)) (item_struct AMap) (suc (suc (suc i))) i 3 0) (long l)
-      ∙ ap (λ r. spec kinds.Map f p 0 (suc (suc (suc i)) + nodes l) 0 (pos 0) ∷ size 1 i (resting 0) 0 ∷ size 2 i (resting 0) 0 ∷ r) (cleared_nodes l (item_struct AMap) (suc (suc (suc i))) i 3 0 tt)
+      ap (λ n. spec kinds.Map f p 0 (suc (suc (suc i)) + n) 0 (pos 0) ∷ size 1 i (resting 0) 0
+      ∷ size 2 i (resting 0) 0 ∷ nodes_of (blank (kinds_of l)) (item_struct AMap) (suc (suc (suc i))) i 3
+      0) (long l)
+      ∙ ap (λ r. spec kinds.Map f p 0 (suc (suc (suc i)) + nodes l) 0 (pos 0) ∷ size 1 i (resting 0) 0
+      ∷ size 2 i (resting 0) 0 ∷ r) (cleared_nodes l (item_struct AMap) (suc (suc (suc i))) i 3 0 tt)
   cleared_nodes (Optional w l) sk i p f o h =
       let none : 0 + inline (blank (kinds_of l)) ≡ 0 = omega (arith, blank_inline (kinds_of l)) in
-      ap (λ b. spec kinds.Optional f p b (suc (suc i) + nodes (blank (kinds_of l))) 0 (pos 0) ∷ spec kinds.Flag 1 i 0 0 0 (pos 0) ∷ nodes_of (blank (kinds_of l)) kinds.Struct (suc (suc i)) i 2 0) none
-      ∙ ap (λ n. spec kinds.Optional f p 0 (suc (suc i) + n) 0 (pos 0) ∷ spec kinds.Flag 1 i 0 0 0 (pos 0) ∷ nodes_of (blank (kinds_of l)) kinds.Struct (suc (suc i)) i 2 0) (long l)
-      ∙ ap (λ r. spec kinds.Optional f p 0 (suc (suc i) + nodes l) 0 (pos 0) ∷ spec kinds.Flag 1 i 0 0 0 (pos 0) ∷ r) (cleared_nodes l kinds.Struct (suc (suc i)) i 2 w.bits tt)
+      ap (λ b. spec kinds.Optional f p b (suc (suc i) + nodes (blank (kinds_of l))) 0 (pos 0)
+      ∷ spec kinds.Flag 1 i 0 0 0 (pos 0)
+      ∷ nodes_of (blank (kinds_of l)) kinds.Struct (suc (suc i)) i 2 0) none
+      ∙ ap (λ n. spec kinds.Optional f p 0 (suc (suc i) + n) 0 (pos 0) ∷ spec kinds.Flag 1 i 0 0 0 (pos 0)
+      ∷ nodes_of (blank (kinds_of l)) kinds.Struct (suc (suc i)) i 2 0) (long l)
+      ∙ ap (λ r. spec kinds.Optional f p 0 (suc (suc i) + nodes l) 0 (pos 0)
+      ∷ spec kinds.Flag 1 i 0 0 0 (pos 0) ∷ r) (cleared_nodes l kinds.Struct (suc (suc i)) i 2 w.bits tt)
   cleared_nodes (Struct ls) sk i p f o h =
-      ap (λ b. spec sk f p b (suc i + nodes_all (all_blank (kinds_all ls))) 0 (pos 0) ∷ nodes_of_all (all_blank (kinds_all ls)) (suc i) i 0) (all_blank_inline (kinds_all ls))
-      ∙ ap (λ n. spec sk f p 0 (suc i + n) 0 (pos 0) ∷ nodes_of_all (all_blank (kinds_all ls)) (suc i) i 0) (long_all ls)
-      ∙ ap (λ w. spec sk f p 0 w 0 (pos 0) ∷ nodes_of_all (all_blank (kinds_all ls)) (suc i) i 0) (sym (struct_stays sk (suc i + nodes_all ls) h))
-      ∙ ap (λ r. spec sk f p 0 (cleared_wide sk (suc i + nodes_all ls)) 0 (pos 0) ∷ r) (cleared_fields ls (suc i) i 0)
+      ap (λ b. spec sk f p b (suc i + nodes_all (all_blank (kinds_all ls))) 0 (pos 0)
+      ∷ nodes_of_all (all_blank (kinds_all ls)) (suc i) i 0) (all_blank_inline (kinds_all ls))
+      ∙ ap (λ n. spec sk f p 0 (suc i + n) 0 (pos 0) ∷ nodes_of_all (all_blank (kinds_all ls)) (suc i) i 0)
+      (long_all ls)
+      ∙ ap (λ w. spec sk f p 0 w 0 (pos 0) ∷ nodes_of_all (all_blank (kinds_all ls)) (suc i) i 0)
+      (sym (struct_stays sk (suc i + nodes_all ls) h))
+      ∙ ap (λ r. spec sk f p 0 (cleared_wide sk (suc i + nodes_all ls)) 0 (pos 0) ∷ r)
+      (cleared_fields ls (suc i) i 0)
 
-  cleared_fields : (ls : AllNoted) (i p o : ℕ) → nodes_of_all (all_blank (kinds_all ls)) i p 0 ≡ map cleared (nodes_of_all ls i p o)
+  cleared_fields : (ls : AllNoted) (i p o : ℕ) → nodes_of_all (all_blank (kinds_all ls)) i p 0
+      ≡ map cleared (nodes_of_all ls i p o)
   cleared_fields NoField i p o = refl
   cleared_fields (Field id l ls) i p o =
       let none : 0 + inline (blank (kinds_of l)) ≡ 0 = omega (arith, blank_inline (kinds_of l)) in
-      ap (λ z. nodes_of (blank (kinds_of l)) kinds.Struct i p id 0 ++ nodes_of_all (all_blank (kinds_all ls)) (i + nodes (blank (kinds_of l))) p z) none
-      ∙ ap (λ n. nodes_of (blank (kinds_of l)) kinds.Struct i p id 0 ++ nodes_of_all (all_blank (kinds_all ls)) (i + n) p 0) (long l)
-      ∙ ap (λ r. r ++ nodes_of_all (all_blank (kinds_all ls)) (i + nodes l) p 0) (cleared_nodes l kinds.Struct i p id o tt)
-      ∙ ap (λ r. map cleared (nodes_of l kinds.Struct i p id o) ++ r) (cleared_fields ls (i + nodes l) p (o + inline l))
+      ap (λ z. nodes_of (blank (kinds_of l)) kinds.Struct i p id 0
+      ++ nodes_of_all (all_blank (kinds_all ls)) (i + nodes (blank (kinds_of l))) p z) none
+      ∙ ap (λ n. nodes_of (blank (kinds_of l)) kinds.Struct i p id 0
+      ++ nodes_of_all (all_blank (kinds_all ls)) (i + n) p 0) (long l)
+      ∙ ap (λ r. r ++ nodes_of_all (all_blank (kinds_all ls)) (i + nodes l) p 0)
+      (cleared_nodes l kinds.Struct i p id o tt)
+      ∙ ap (λ r. map cleared (nodes_of l kinds.Struct i p id o) ++ r)
+      (cleared_fields ls (i + nodes l) p (o + inline l))
       ∙ sym (cleared_join (nodes_of l kinds.Struct i p id o) (nodes_of_all ls (i + nodes l) p (o + inline l)))
 
 -- the cleared nodes of a layout make a layout that may be kept
-pub renewed : (e : FormVersion) (v : Version) (old new : List NodeSpec) → IsListing old → ∥ IsNotedLayout e (tree_of old) ∥₁ → new ≡ map cleared old → Shaped (kinds_of (layout_in v (tree_of old))) new
+pub renewed : (e : FormVersion) (v : Version) (old new : List NodeSpec) → IsListing old
+    → ∥ IsNotedLayout e (tree_of old) ∥₁ → new ≡ map cleared old
+    → Shaped (kinds_of (layout_in v (tree_of old))) new
 renewed e v old new li so en =
     let t = tree_of old in
     let k = kinds_of t in
     let b = blank k in
-    let is : new ≡ all_nodes b = en ∙ ap (λ xs. map cleared xs) li ∙ sym (cleared_nodes t kinds.Struct 0 0 0 0 tt) in
+    let is : new ≡ all_nodes b = en ∙ ap (λ xs. map cleared xs) li
+    ∙ sym (cleared_nodes t kinds.Struct 0 0 0 0 tt) in
     let tells : tree_of new ≡ b = ap tree_of is ∙ tree_again b in
     subst (λ (m : KindTree). Shaped m new) (sym (layout_kinds v t))
     (record {
       listing = is ∙ ap all_nodes (sym tells);
-      sound = subst (λ (m : Noted). ∥ IsNotedLayout Second m ∥₁) (sym tells) (∥∥₁_map so (λ x. blank_sound k x.kind_tree x.root));
+      sound = subst (λ (m : Noted). ∥ IsNotedLayout Second m ∥₁) (sym tells)
+          (∥∥₁_map so (λ x. blank_sound k x.kind_tree x.root));
       layout = ap (λ (m : Noted). described Version2 true (layout_in Version2 m)) tells;
-      settled = ap (λ (m : Noted). described Version2 true (layout_in Version2 m)) (ap settled tells ∙ blank_settled k ∙ sym tells);
+      settled = ap (λ (m : Noted). described Version2 true (layout_in Version2 m))
+          (ap settled tells ∙ blank_settled k ∙ sym tells);
     })

@@ -18,3 +18,6 @@ pub mod Shaping
 pub mod Shaped
 pub mod Clearing
 pub mod Whole
+pub mod Codings
+pub mod Left
+pub mod Held

@@ -1,16 +1,25 @@
 -- What is read at the nodes of a part.
-use Rattle.std.proofs.Common.{◌≡◌, ◌⊎◌, inl, inr, ℕ, ℤ, suc, ◌+◌, ◌≤◌, List, ◌++◌, arith, refl, ap, sym, ◌∙◌, length, get_or, subst}
+use Rattle.std.proofs.Common.{◌≡◌, ◌⊎◌, inl, inr, ℕ, ℤ, suc, ◌+◌, ◌≤◌, List, ◌++◌, arith, refl, ap, sym, ◌∙◌}
+use Rattle.std.proofs.Common.{length, get_or, subst}
 use Rattle.std.proofs.Math.Logic.{∥∥₁_elim}
 use Rattle.std.proofs.Math.Bridge.{le_prop}
-use Rattle.frozen_model.specs.Trees.{LeafKind, Flag, Integer, I8, I16, I32, I64, Text, Binary, AList, ASet, AMap, Tree, Trees, Leaf, ByteRange, ItemRange, Optional, Struct, NoField, Field, nodes, nodes_all, Part, greatest_bits, greatest_bits_all, IsNarrow, AllNarrow, itself, in_item, in_optional, in_struct, PartAll, in_first, in_later, kinds as kinds_of, kinds_all}
-use Rattle.frozen_model.specs.Layouts.{Version, Version1, Version2, FromBase, Layout, width, stride, strides, Legal, AllLegal}
+use Rattle.frozen_model.specs.Trees.{LeafKind, Flag, Integer, I8, I16, I32, I64, Text, Binary, AList, ASet}
+use Rattle.frozen_model.specs.Trees.{AMap, Tree, Trees, Leaf, ByteRange, ItemRange, Optional, Struct, NoField}
+use Rattle.frozen_model.specs.Trees.{Field, nodes, nodes_all, Part, greatest_bits, greatest_bits_all}
+use Rattle.frozen_model.specs.Trees.{IsNarrow, AllNarrow, itself, in_item, in_optional, in_struct, PartAll}
+use Rattle.frozen_model.specs.Trees.{in_first, in_later, kinds as kinds_of, kinds_all}
+use Rattle.frozen_model.specs.Layouts.{Version, Version1, Version2, FromBase, Layout, width, stride, strides}
+use Rattle.frozen_model.specs.Layouts.{Legal, AllLegal}
 use Rattle.frozen_laws.proofs.Limits.{greatest_small}
 use Rattle.layout_tree.specs.declared.node.NodeSpec.{NodeSpec}
 use Rattle.layout_tree.specs.declared.node.FormVersion.{FormVersion}
 use Rattle.layout_tree.specs.declared.node.Kind.{Kind}
 use Rattle.layout_tree.specs.declared.node.Kind.TheVariants as kinds
-use Rattle.layout_tree.specs.Listing.{Noted, AllNoted, coded, layout_in, layouts_in, inline, inline_all, kind_of, item_struct, nodes_of, tree_of, IsListing, version_of, IsNotedLayout}
-use Rattle.layout_tree.specs.Reading.{plain, kind_at, IsLeaf, IsRange, IsHolder, IsOptional, distance_width, count_width, isset_width, item_of}
+use Rattle.layout_tree.specs.Listing.{Noted, AllNoted, coded, layout_in, layouts_in, inline, inline_all}
+use Rattle.layout_tree.specs.Listing.{kind_of, item_struct, nodes_of, tree_of, IsListing, version_of}
+use Rattle.layout_tree.specs.Listing.{IsNotedLayout}
+use Rattle.layout_tree.specs.Reading.{plain, kind_at, IsLeaf, IsRange, IsHolder, IsOptional, distance_width}
+use Rattle.layout_tree.specs.Reading.{count_width, isset_width, item_of}
 use Rattle.layout_tree.specs.Segments.{IsStructKind}
 use Rattle.layout_tree.proofs.Place.{At, some_nodes, length_nodes}
 
@@ -46,24 +55,28 @@ mutual
 -- ---- a part of a legal layout
 
 mutual
-  pub legal_part : (v : Version) {t s : Noted} {i n : ℕ} → Part t i s n → Legal (layout_in v t) → Legal (layout_in v s)
+  pub legal_part : (v : Version) {t s : Noted} {i n : ℕ} → Part t i s n → Legal (layout_in v t)
+      → Legal (layout_in v s)
   legal_part v itself h = h
   legal_part v (in_item p) h = legal_part v p h.2
   legal_part v (in_optional p) h = legal_part v p h.1
   legal_part v (in_struct p) h = legal_part_all v p h
 
-  pub legal_part_all : (v : Version) {ts : AllNoted} {s : Noted} {i n : ℕ} → PartAll ts i s n → AllLegal (layouts_in v ts) → Legal (layout_in v s)
+  pub legal_part_all : (v : Version) {ts : AllNoted} {s : Noted} {i n : ℕ} → PartAll ts i s n
+      → AllLegal (layouts_in v ts) → Legal (layout_in v s)
   legal_part_all v (in_first p) h = legal_part v p h.0
   legal_part_all v (in_later p) h = legal_part_all v p h.1
 
 mutual
-  pub narrow_part : {A B : Type 0} {t s : Tree A B} {i n : ℕ} → Part t i s n → IsNarrow (kinds_of t) → IsNarrow (kinds_of s)
+  pub narrow_part : {A B : Type 0} {t s : Tree A B} {i n : ℕ} → Part t i s n → IsNarrow (kinds_of t)
+      → IsNarrow (kinds_of s)
   narrow_part itself h = h
   narrow_part (in_item p) h = narrow_part p h
   narrow_part (in_optional p) h = narrow_part p h.1
   narrow_part (in_struct p) h = narrow_part_all p h.1
 
-  pub narrow_part_all : {A B : Type 0} {ts : Trees A B} {s : Tree A B} {i n : ℕ} → PartAll ts i s n → AllNarrow (kinds_all ts) → IsNarrow (kinds_of s)
+  pub narrow_part_all : {A B : Type 0} {ts : Trees A B} {s : Tree A B} {i n : ℕ} → PartAll ts i s n
+      → AllNarrow (kinds_all ts) → IsNarrow (kinds_of s)
   narrow_part_all (in_first p) h = narrow_part p h.0
   narrow_part_all (in_later p) h = narrow_part_all p h.1
 
@@ -80,18 +93,21 @@ mutual
   kinds_nodes_all (Field i l ls) = let e = kinds_nodes l in let f = kinds_nodes_all ls in cc
 
 mutual
-  pub stride_greatest : (v : Version) (t : Noted) → Legal (layout_in v t) → stride (layout_in v t) ≤ greatest_bits (kinds_of t)
+  pub stride_greatest : (v : Version) (t : Noted) → Legal (layout_in v t) → stride (layout_in v t)
+      ≤ greatest_bits (kinds_of t)
   stride_greatest v (Leaf k c) h = h
   stride_greatest v (ByteRange t d c) h = omega (arith, h.0, h.1)
   stride_greatest v (ItemRange g d c l) h = omega (arith, h.0, h.1)
   stride_greatest v (Optional w l) h = omega (arith, h.0, stride_greatest v l h.1)
   stride_greatest v (Struct ls) h = strides_greatest v ls h
 
-  pub strides_greatest : (v : Version) (ls : AllNoted) → AllLegal (layouts_in v ls) → strides (layouts_in v ls) ≤ greatest_bits_all (kinds_all ls)
+  pub strides_greatest : (v : Version) (ls : AllNoted) → AllLegal (layouts_in v ls)
+      → strides (layouts_in v ls) ≤ greatest_bits_all (kinds_all ls)
   strides_greatest v NoField h = omega arith
   strides_greatest v (Field i l ls) h = omega (arith, stride_greatest v l h.0, strides_greatest v ls h.1)
 
-pub stride_small : (v : Version) (t : Noted) → Legal (layout_in v t) → IsNarrow (kinds_of t) → stride (layout_in v t) ≤ 32767
+pub stride_small : (v : Version) (t : Noted) → Legal (layout_in v t) → IsNarrow (kinds_of t)
+    → stride (layout_in v t) ≤ 32767
 stride_small v (Leaf k c) h n = omega (arith, h, greatest_small k)
 stride_small v (ByteRange t d c) h n = omega (arith, h.0, h.1)
 stride_small v (ItemRange g d c l) h n = omega (arith, h.0, h.1)
@@ -105,10 +121,14 @@ pub record Sound (e : FormVersion) (s : Noted) : Type 0 where
   pub narrow : IsNarrow (kinds_of s)
 
 sound_part : (e : FormVersion) {t s : Noted} {n : ℕ} → Part t 0 s n → IsNotedLayout e t → Sound e s
-sound_part e p h = record { legal = legal_part (version_of e) p h.legal; narrow = narrow_part p h.kind_tree.narrow }
+sound_part e p h = record {
+  legal = legal_part (version_of e) p h.legal;
+  narrow = narrow_part p h.kind_tree.narrow;
+}
 
 -- a bound by what the invariant says
-pub bound : (e : FormVersion) (t s : Noted) (n : ℕ) (a b : ℕ) → ∥ IsNotedLayout e t ∥₁ → Part t 0 s n → (Sound e s → a ≤ b) → a ≤ b
+pub bound : (e : FormVersion) (t s : Noted) (n : ℕ) (a b : ℕ) → ∥ IsNotedLayout e t ∥₁ → Part t 0 s n
+    → (Sound e s → a ≤ b) → a ≤ b
 bound e t s n a b h p f = ∥∥₁_elim h le_prop (λ x. f (sound_part e p x))
 
 pub few_nodes : (e : FormVersion) (t : Noted) → ∥ IsNotedLayout e t ∥₁ → nodes t ≤ 4096
@@ -116,7 +136,8 @@ few_nodes e t h = ∥∥₁_elim h le_prop (λ x. omega (arith, x.kind_tree.few,
 
 -- ---- reads
 
-pub read_first : {ns : List NodeSpec} {s : Noted} {n : ℕ} (a : At ns s n) → (d : NodeSpec) → get_or ns n d ≡ get_or (nodes_of s a.kind n a.parent a.field a.offset ++ a.post) 0 d
+pub read_first : {ns : List NodeSpec} {s : Noted} {n : ℕ} (a : At ns s n) → (d : NodeSpec) → get_or ns n d
+    ≡ get_or (nodes_of s a.kind n a.parent a.field a.offset ++ a.post) 0 d
 read_first {ns} {s} {n} a x = let e : n ≡ n + 0 = omega arith in ap (λ j. get_or ns j x) e ∙ a.read 0 x
 
 plain_struct : (k : Kind) → IsStructKind k → plain k ≡ kinds.Struct
@@ -142,7 +163,9 @@ plain_leaf (Integer I16) = refl
 plain_leaf (Integer I32) = refl
 plain_leaf (Integer I64) = refl
 
-head_kind : (v : Version) (s : Noted) (sk : Kind) → IsStructKind sk → (i p f o : ℕ) (rest : List NodeSpec) (d : NodeSpec) → plain (get_or (nodes_of s sk i p f o ++ rest) 0 d).kind ≡ kind_at (layout_in v s)
+head_kind : (v : Version) (s : Noted) (sk : Kind) → IsStructKind sk
+    → (i p f o : ℕ) (rest : List NodeSpec) (d : NodeSpec)
+    → plain (get_or (nodes_of s sk i p f o ++ rest) 0 d).kind ≡ kind_at (layout_in v s)
 head_kind v (Leaf k c) sk h i p f o rest x = plain_leaf k
 head_kind v (ByteRange Text d c) sk h i p f o rest x = refl
 head_kind v (ByteRange Binary d c) sk h i p f o rest x = refl
@@ -152,18 +175,23 @@ head_kind v (ItemRange AMap d c l) sk h i p f o rest x = refl
 head_kind v (Optional w l) sk h i p f o rest x = refl
 head_kind v (Struct ls) sk h i p f o rest x = plain_struct sk h
 
-pub kind_read : (v : Version) {ns : List NodeSpec} {s : Noted} {n : ℕ} → At ns s n → (d : NodeSpec) → plain (get_or ns n d).kind ≡ kind_at (layout_in v s)
-kind_read v {ns} {s} {n} a d = ap (λ x. plain x.kind) (read_first a d) ∙ head_kind v s a.kind a.struct n a.parent a.field a.offset a.post d
+pub kind_read : (v : Version) {ns : List NodeSpec} {s : Noted} {n : ℕ} → At ns s n → (d : NodeSpec)
+    → plain (get_or ns n d).kind ≡ kind_at (layout_in v s)
+kind_read v {ns} {s} {n} a d = ap (λ x. plain x.kind) (read_first a d)
+    ∙ head_kind v s a.kind a.struct n a.parent a.field a.offset a.post d
 
-head_bits : (s : Noted) (sk : Kind) (i p f o : ℕ) (rest : List NodeSpec) (d : NodeSpec) → (get_or (nodes_of s sk i p f o ++ rest) 0 d).bits ≡ inline s
+head_bits : (s : Noted) (sk : Kind) (i p f o : ℕ) (rest : List NodeSpec) (d : NodeSpec)
+    → (get_or (nodes_of s sk i p f o ++ rest) 0 d).bits ≡ inline s
 head_bits (Leaf k c) sk i p f o rest x = refl
 head_bits (ByteRange t d c) sk i p f o rest x = refl
 head_bits (ItemRange g d c l) sk i p f o rest x = refl
 head_bits (Optional w l) sk i p f o rest x = refl
 head_bits (Struct ls) sk i p f o rest x = refl
 
-pub bits_read : (v : Version) {ns : List NodeSpec} {s : Noted} {n : ℕ} → At ns s n → (d : NodeSpec) → (get_or ns n d).bits ≡ stride (layout_in v s)
-bits_read v {ns} {s} {n} a d = ap (λ x. x.bits) (read_first a d) ∙ head_bits s a.kind n a.parent a.field a.offset a.post d ∙ sym (stride_inline v s)
+pub bits_read : (v : Version) {ns : List NodeSpec} {s : Noted} {n : ℕ} → At ns s n → (d : NodeSpec)
+    → (get_or ns n d).bits ≡ stride (layout_in v s)
+bits_read v {ns} {s} {n} a d = ap (λ x. x.bits) (read_first a d)
+    ∙ head_bits s a.kind n a.parent a.field a.offset a.post d ∙ sym (stride_inline v s)
 
 -- a node with nodes below it keeps the number after them
 abbrev pub IsBranch : Kind → Type 0
@@ -212,7 +240,9 @@ past_struct kinds.Map h n w m e = absurd h
 past_struct kinds.Optional h n w m e = absurd h
 past_struct kinds.Size h n w m e = absurd h
 
-pub head_past : (s : Noted) (sk : Kind) → IsStructKind sk → (i p f o : ℕ) (rest : List NodeSpec) (d : NodeSpec) → let x = get_or (nodes_of s sk i p f o ++ rest) 0 d in PastAt x.kind i x.wide (nodes s)
+pub head_past : (s : Noted) (sk : Kind) → IsStructKind sk
+    → (i p f o : ℕ) (rest : List NodeSpec) (d : NodeSpec)
+    → let x = get_or (nodes_of s sk i p f o ++ rest) 0 d in PastAt x.kind i x.wide (nodes s)
 head_past (Leaf Flag c) sk h i p f o rest x = refl
 head_past (Leaf (Integer I8) c) sk h i p f o rest x = refl
 head_past (Leaf (Integer I16) c) sk h i p f o rest x = refl
@@ -224,55 +254,78 @@ head_past (ItemRange AList d c l) sk h i p f o rest x = omega arith
 head_past (ItemRange ASet d c l) sk h i p f o rest x = omega arith
 head_past (ItemRange AMap d c l) sk h i p f o rest x = omega arith
 head_past (Optional w l) sk h i p f o rest x = omega arith
-head_past (Struct ls) sk h i p f o rest x = past_struct sk h i (suc i + nodes_all ls) (1 + nodes_all ls) (omega arith)
+head_past (Struct ls) sk h i p f o rest x = past_struct sk h i (suc i + nodes_all ls) (1 + nodes_all ls)
+    (omega arith)
 
-pub past_read : {ns : List NodeSpec} {s : Noted} {n : ℕ} → At ns s n → (d : NodeSpec) → PastAt (get_or ns n d).kind n (get_or ns n d).wide (nodes s)
-past_read {ns} {s} {n} a d = subst (λ (x : NodeSpec). PastAt x.kind n x.wide (nodes s)) (sym (read_first a d)) (head_past s a.kind a.struct n a.parent a.field a.offset a.post d)
+pub past_read : {ns : List NodeSpec} {s : Noted} {n : ℕ} → At ns s n → (d : NodeSpec)
+    → PastAt (get_or ns n d).kind n (get_or ns n d).wide (nodes s)
+past_read {ns} {s} {n} a d = subst (λ (x : NodeSpec). PastAt x.kind n x.wide (nodes s)) (sym (read_first a d))
+    (head_past s a.kind a.struct n a.parent a.field a.offset a.post d)
 
-head_distance : (v : Version) (s : Noted) (sk : Kind) (i p f o : ℕ) (rest : List NodeSpec) (d : NodeSpec) → IsRange (layout_in v s) → (get_or (nodes_of s sk i p f o ++ rest) 1 d).bits ≡ distance_width (layout_in v s)
+head_distance : (v : Version) (s : Noted) (sk : Kind) (i p f o : ℕ) (rest : List NodeSpec) (d : NodeSpec)
+    → IsRange (layout_in v s) → (get_or (nodes_of s sk i p f o ++ rest) 1 d).bits
+    ≡ distance_width (layout_in v s)
 head_distance v (Leaf k c) sk i p f o rest x h = absurd h
 head_distance v (ByteRange t d c) sk i p f o rest x h = refl
 head_distance v (ItemRange g d c l) sk i p f o rest x h = refl
 head_distance v (Optional w l) sk i p f o rest x h = absurd h
 head_distance v (Struct ls) sk i p f o rest x h = absurd h
 
-head_count : (v : Version) (s : Noted) (sk : Kind) (i p f o : ℕ) (rest : List NodeSpec) (d : NodeSpec) → IsRange (layout_in v s) → (get_or (nodes_of s sk i p f o ++ rest) 2 d).bits ≡ count_width (layout_in v s)
+head_count : (v : Version) (s : Noted) (sk : Kind) (i p f o : ℕ) (rest : List NodeSpec) (d : NodeSpec)
+    → IsRange (layout_in v s) → (get_or (nodes_of s sk i p f o ++ rest) 2 d).bits
+    ≡ count_width (layout_in v s)
 head_count v (Leaf k c) sk i p f o rest x h = absurd h
 head_count v (ByteRange t d c) sk i p f o rest x h = refl
 head_count v (ItemRange g d c l) sk i p f o rest x h = refl
 head_count v (Optional w l) sk i p f o rest x h = absurd h
 head_count v (Struct ls) sk i p f o rest x h = absurd h
 
-head_isset : (v : Version) (s : Noted) (sk : Kind) (i p f o : ℕ) (rest : List NodeSpec) (d : NodeSpec) → IsOptional (layout_in v s) → (get_or (nodes_of s sk i p f o ++ rest) 1 d).bits ≡ isset_width (layout_in v s)
+head_isset : (v : Version) (s : Noted) (sk : Kind) (i p f o : ℕ) (rest : List NodeSpec) (d : NodeSpec)
+    → IsOptional (layout_in v s) → (get_or (nodes_of s sk i p f o ++ rest) 1 d).bits
+    ≡ isset_width (layout_in v s)
 head_isset v (Leaf k c) sk i p f o rest x h = absurd h
 head_isset v (ByteRange t d c) sk i p f o rest x h = absurd h
 head_isset v (ItemRange g d c l) sk i p f o rest x h = absurd h
 head_isset v (Optional w l) sk i p f o rest x h = refl
 head_isset v (Struct ls) sk i p f o rest x h = absurd h
 
-head_item : (v : Version) (s : Noted) (sk : Kind) (i p f o : ℕ) (rest : List NodeSpec) (d : NodeSpec) → IsHolder (layout_in v s) → (get_or (nodes_of s sk i p f o ++ rest) 3 d).bits ≡ stride (item_of (layout_in v s))
+head_item : (v : Version) (s : Noted) (sk : Kind) (i p f o : ℕ) (rest : List NodeSpec) (d : NodeSpec)
+    → IsHolder (layout_in v s) → (get_or (nodes_of s sk i p f o ++ rest) 3 d).bits
+    ≡ stride (item_of (layout_in v s))
 head_item v (Leaf k c) sk i p f o rest x h = absurd h
 head_item v (ByteRange t d c) sk i p f o rest x h = absurd h
-head_item v (ItemRange g d c l) sk i p f o rest x h = head_bits l (item_struct g) (suc (suc (suc i))) i 3 0 rest x ∙ sym (stride_inline v l)
+head_item v (ItemRange g d c l) sk i p f o rest x h = head_bits l (item_struct g) (suc (suc (suc i))) i 3 0
+    rest x ∙ sym (stride_inline v l)
 head_item v (Optional w l) sk i p f o rest x h = absurd h
 head_item v (Struct ls) sk i p f o rest x h = absurd h
 
-pub distance_read : (v : Version) {ns : List NodeSpec} {s : Noted} {n : ℕ} → At ns s n → (d : NodeSpec) → IsRange (layout_in v s) → (get_or ns (n + 1) d).bits ≡ distance_width (layout_in v s)
-distance_read v {ns} {s} {n} a d h = ap (λ x. x.bits) (a.read 1 d) ∙ head_distance v s a.kind n a.parent a.field a.offset a.post d h
+pub distance_read : (v : Version) {ns : List NodeSpec} {s : Noted} {n : ℕ} → At ns s n → (d : NodeSpec)
+    → IsRange (layout_in v s) → (get_or ns (n + 1) d).bits ≡ distance_width (layout_in v s)
+distance_read v {ns} {s} {n} a d h = ap (λ x. x.bits) (a.read 1 d)
+    ∙ head_distance v s a.kind n a.parent a.field a.offset a.post d h
 
-pub count_read : (v : Version) {ns : List NodeSpec} {s : Noted} {n : ℕ} → At ns s n → (d : NodeSpec) → IsRange (layout_in v s) → (get_or ns (n + 2) d).bits ≡ count_width (layout_in v s)
-count_read v {ns} {s} {n} a d h = ap (λ x. x.bits) (a.read 2 d) ∙ head_count v s a.kind n a.parent a.field a.offset a.post d h
+pub count_read : (v : Version) {ns : List NodeSpec} {s : Noted} {n : ℕ} → At ns s n → (d : NodeSpec)
+    → IsRange (layout_in v s) → (get_or ns (n + 2) d).bits ≡ count_width (layout_in v s)
+count_read v {ns} {s} {n} a d h = ap (λ x. x.bits) (a.read 2 d)
+    ∙ head_count v s a.kind n a.parent a.field a.offset a.post d h
 
-pub isset_read : (v : Version) {ns : List NodeSpec} {s : Noted} {n : ℕ} → At ns s n → (d : NodeSpec) → IsOptional (layout_in v s) → (get_or ns (n + 1) d).bits ≡ isset_width (layout_in v s)
-isset_read v {ns} {s} {n} a d h = ap (λ x. x.bits) (a.read 1 d) ∙ head_isset v s a.kind n a.parent a.field a.offset a.post d h
+pub isset_read : (v : Version) {ns : List NodeSpec} {s : Noted} {n : ℕ} → At ns s n → (d : NodeSpec)
+    → IsOptional (layout_in v s) → (get_or ns (n + 1) d).bits ≡ isset_width (layout_in v s)
+isset_read v {ns} {s} {n} a d h = ap (λ x. x.bits) (a.read 1 d)
+    ∙ head_isset v s a.kind n a.parent a.field a.offset a.post d h
 
-pub item_read : (v : Version) {ns : List NodeSpec} {s : Noted} {n : ℕ} → At ns s n → (d : NodeSpec) → IsHolder (layout_in v s) → (get_or ns (n + 3) d).bits ≡ stride (item_of (layout_in v s))
-item_read v {ns} {s} {n} a d h = ap (λ x. x.bits) (a.read 3 d) ∙ head_item v s a.kind n a.parent a.field a.offset a.post d h
+pub item_read : (v : Version) {ns : List NodeSpec} {s : Noted} {n : ℕ} → At ns s n → (d : NodeSpec)
+    → IsHolder (layout_in v s) → (get_or ns (n + 3) d).bits ≡ stride (item_of (layout_in v s))
+item_read v {ns} {s} {n} a d h = ap (λ x. x.bits) (a.read 3 d)
+    ∙ head_item v s a.kind n a.parent a.field a.offset a.post d h
 
-pub base_read : (v : Version) {ns : List NodeSpec} {s : Noted} {n : ℕ} → At ns s n → (d : NodeSpec) → (k : LeafKind) (b : ℤ) (w : ℕ) → layout_in v s ≡ Leaf k (FromBase b w) → (get_or ns n d).base ≡ b
-base_read v {ns} {s} {n} a d k b w e = ap (λ x. x.base) (read_first a d) ∙ go s v n a.kind a.parent a.field a.offset e
+pub base_read : (v : Version) {ns : List NodeSpec} {s : Noted} {n : ℕ} → At ns s n → (d : NodeSpec)
+    → (k : LeafKind) (b : ℤ) (w : ℕ) → layout_in v s ≡ Leaf k (FromBase b w) → (get_or ns n d).base ≡ b
+base_read v {ns} {s} {n} a d k b w e = ap (λ x. x.base) (read_first a d)
+    ∙ go s v n a.kind a.parent a.field a.offset e
   where
-    go : (s : Noted) (v : Version) (i : ℕ) (sk : Kind) (p f o : ℕ) → layout_in v s ≡ Leaf k (FromBase b w) → (get_or (nodes_of s sk i p f o ++ a.post) 0 d).base ≡ b
+    go : (s : Noted) (v : Version) (i : ℕ) (sk : Kind) (p f o : ℕ) → layout_in v s ≡ Leaf k (FromBase b w)
+        → (get_or (nodes_of s sk i p f o ++ a.post) 0 d).base ≡ b
     go (Leaf Flag c) v i sk p f o e = absurd cc
     go (Leaf (Integer j) c) Version1 i sk p f o e = absurd cc
     go (Leaf (Integer j) c) Version2 i sk p f o e = cc
@@ -334,7 +387,8 @@ leaf_small (ItemRange g d c l) h r = absurd r
 leaf_small (Optional w l) h r = absurd r
 leaf_small (Struct ls) h r = absurd r
 
-pub item_small : (v : Version) (t : Noted) → Legal (layout_in v t) → IsNarrow (kinds_of t) → IsHolder (layout_in v t) → stride (item_of (layout_in v t)) ≤ 32767
+pub item_small : (v : Version) (t : Noted) → Legal (layout_in v t) → IsNarrow (kinds_of t)
+    → IsHolder (layout_in v t) → stride (item_of (layout_in v t)) ≤ 32767
 item_small v (Leaf k c) h n r = absurd r
 item_small v (ByteRange t d c) h n r = absurd r
 item_small v (ItemRange g d c l) h n r = stride_small v l h.2 n
@@ -344,7 +398,8 @@ item_small v (Struct ls) h n r = absurd r
 pub length_listing : (ns : List NodeSpec) → IsListing ns → length ns ≡ nodes (tree_of ns)
 length_listing ns e = ap length e ∙ length_nodes (tree_of ns) kinds.Struct 0 0 0 0
 
-pub few_listed : (e : FormVersion) (ns : List NodeSpec) → IsListing ns → ∥ IsNotedLayout e (tree_of ns) ∥₁ → length ns ≤ 4096
+pub few_listed : (e : FormVersion) (ns : List NodeSpec) → IsListing ns → ∥ IsNotedLayout e (tree_of ns) ∥₁
+    → length ns ≤ 4096
 few_listed e ns h p = omega (arith, length_listing ns h, few_nodes e (tree_of ns) p)
 
 pub past_leaf : (k : Kind) → IsLeafKind k → (n w m : ℕ) → PastAt k n w m → n + 1 ≡ n + m
@@ -379,7 +434,9 @@ past_branch kinds.Pair h n w m e = e
 past_branch kinds.Struct h n w m e = e
 past_branch kinds.Optional h n w m e = e
 
-pub leaf_cases : (k : Kind) → (k ≡ kinds.Flag) ⊎ ((k ≡ kinds.I8) ⊎ ((k ≡ kinds.I16) ⊎ ((k ≡ kinds.I32) ⊎ ((k ≡ kinds.I64) ⊎ (k ≡ kinds.Size))))) → IsLeafKind k
+pub leaf_cases : (k : Kind) → (k ≡ kinds.Flag)
+    ⊎ ((k ≡ kinds.I8) ⊎ ((k ≡ kinds.I16) ⊎ ((k ≡ kinds.I32) ⊎ ((k ≡ kinds.I64) ⊎ (k ≡ kinds.Size)))))
+    → IsLeafKind k
 leaf_cases k (inl e) = subst IsLeafKind (sym e) tt
 leaf_cases k (inr (inl e)) = subst IsLeafKind (sym e) tt
 leaf_cases k (inr (inr (inl e))) = subst IsLeafKind (sym e) tt
@@ -387,7 +444,8 @@ leaf_cases k (inr (inr (inr (inl e)))) = subst IsLeafKind (sym e) tt
 leaf_cases k (inr (inr (inr (inr (inl e))))) = subst IsLeafKind (sym e) tt
 leaf_cases k (inr (inr (inr (inr (inr e))))) = subst IsLeafKind (sym e) tt
 
-pub branch_cases : (k : Kind) → (k ≡ kinds.Flag → ⊥) → (k ≡ kinds.I8 → ⊥) → (k ≡ kinds.I16 → ⊥) → (k ≡ kinds.I32 → ⊥) → (k ≡ kinds.I64 → ⊥) → (k ≡ kinds.Size → ⊥) → IsBranch k
+pub branch_cases : (k : Kind) → (k ≡ kinds.Flag → ⊥) → (k ≡ kinds.I8 → ⊥) → (k ≡ kinds.I16 → ⊥)
+    → (k ≡ kinds.I32 → ⊥) → (k ≡ kinds.I64 → ⊥) → (k ≡ kinds.Size → ⊥) → IsBranch k
 branch_cases kinds.Flag a b c d e f = absurd (a refl)
 branch_cases kinds.I8 a b c d e f = absurd (b refl)
 branch_cases kinds.I16 a b c d e f = absurd (c refl)

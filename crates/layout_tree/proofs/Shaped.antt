@@ -3,14 +3,20 @@ use Rattle.idl_profile.specs.Types.{TypeTree}
 use Rattle.type_kinds.specs.KindsOf.{kinds_of}
 use Rattle.layout_tree.specs.declared.node.Kind.TheVariants as kinds
 use Rattle.std.proofs.Common.{ℕ, length, ◌≡◌, pos, true, ◌++◌, List, [], arith, refl, ap, sym, ◌∙◌, subst}
-use Rattle.frozen_model.specs.Trees.{Whole, I8, I16, I32, I64, LeafKind, Flag, Integer, Leaf, ByteRange, ItemRange, Optional, Struct, NoField, Field, KindTree, KindTrees, kinds as kinds_tree, kinds_all, IsStruct, IsKindTree, value_bits, Alike, AllLeafwise, leaf, byte_range, item_range, optional, struct, no_field, field}
+use Rattle.frozen_model.specs.Trees.{Whole, I8, I16, I32, I64, LeafKind, Flag, Integer, Leaf, ByteRange}
+use Rattle.frozen_model.specs.Trees.{ItemRange, Optional, Struct, NoField, Field, KindTree, KindTrees}
+use Rattle.frozen_model.specs.Trees.{kinds as kinds_tree, kinds_all, IsStruct, IsKindTree, value_bits, Alike}
+use Rattle.frozen_model.specs.Trees.{AllLeafwise, leaf, byte_range, item_range, optional, struct, no_field}
+use Rattle.frozen_model.specs.Trees.{field}
 use Rattle.frozen_model.specs.Values.{InBits}
-use Rattle.frozen_model.specs.Layouts.{Version2, IsCoded, flag_coded, based_coded, Coded, OfVersion, AllOfVersion, Legal, AllLegal, IsDescribed, described}
+use Rattle.frozen_model.specs.Layouts.{Version2, IsCoded, flag_coded, based_coded, Coded, OfVersion}
+use Rattle.frozen_model.specs.Layouts.{AllOfVersion, Legal, AllLegal, IsDescribed, described}
 use Rattle.frozen_model.specs.Holding.{Blank, AllBlank}
 use Rattle.frozen_laws.proofs.SameKinds.{struct_along, kind_tree_along}
 use Rattle.layout_tree.specs.declared.node.NodeSpec.{NodeSpec}
 use Rattle.layout_tree.specs.declared.node.FormVersion.TheVariants.{Second}
-use Rattle.layout_tree.specs.Listing.{Noted, AllNoted, coded, layout_in, layouts_in, settled, settled_all, tree_of, nodes_of, all_nodes, IsListing, IsNotedLayout}
+use Rattle.layout_tree.specs.Listing.{Noted, AllNoted, coded, layout_in, layouts_in, settled, settled_all}
+use Rattle.layout_tree.specs.Listing.{tree_of, nodes_of, all_nodes, IsListing, IsNotedLayout}
 use Rattle.layout_tree.specs.Given.{resting}
 use Rattle.layout_tree.specs.Shapes.{blank, all_blank, shape_of, CanAdd, Adds}
 use Rattle.layout_tree.proofs.Decode.{tree_again}
@@ -31,7 +37,8 @@ mutual
   pub blank_settled : (k : KindTree) → settled (blank k) ≡ blank k
   blank_settled (Leaf k a) = refl
   blank_settled (ByteRange t d c) = refl
-  blank_settled (ItemRange h d c l) = ap (λ (m : Noted). ItemRange h (resting 0) (resting 0) m) (blank_settled l)
+  blank_settled (ItemRange h d c l) = ap (λ (m : Noted). ItemRange h (resting 0) (resting 0) m)
+      (blank_settled l)
   blank_settled (Optional w l) = ap (λ (m : Noted). Optional (resting 0) m) (blank_settled l)
   blank_settled (Struct ls) = ap (λ (m : AllNoted). Struct m) (all_blank_settled ls)
 
@@ -87,9 +94,11 @@ pub record Shaped (k : KindTree) (ns : List NodeSpec) : Type 0 where
   pub listing : IsListing ns
   pub sound : ∥ IsNotedLayout Second (tree_of ns) ∥₁
   pub layout : described Version2 true (layout_in Version2 (tree_of ns)) ≡ shape_of k
-  pub settled : described Version2 true (layout_in Version2 (settled (tree_of ns))) ≡ described Version2 true (layout_in Version2 (tree_of ns))
+  pub settled : described Version2 true (layout_in Version2 (settled (tree_of ns)))
+      ≡ described Version2 true (layout_in Version2 (tree_of ns))
 
-pub shaped : (k : KindTree) (ns : List NodeSpec) → IsKindTree k → IsStruct k → ns ≡ [] ++ all_nodes (blank k) → Shaped k ns
+pub shaped : (k : KindTree) (ns : List NodeSpec) → IsKindTree k → IsStruct k → ns ≡ [] ++ all_nodes (blank k)
+    → Shaped k ns
 shaped k ns h r e =
     let t = blank k in
     let tells : tree_of ns ≡ t = ap tree_of e ∙ tree_again t in
@@ -97,18 +106,25 @@ shaped k ns h r e =
       listing = e ∙ ap all_nodes (sym tells);
       sound = subst (λ (m : Noted). ∥ IsNotedLayout Second m ∥₁) (sym tells) ∣ blank_sound k h r ∣₁;
       layout = ap (λ (m : Noted). described Version2 true (layout_in Version2 m)) tells;
-      settled = ap (λ (m : Noted). described Version2 true (layout_in Version2 m)) (ap settled tells ∙ blank_settled k ∙ sym tells);
+      settled = ap (λ (m : Noted). described Version2 true (layout_in Version2 m))
+          (ap settled tells ∙ blank_settled k ∙ sym tells);
     }
 
 -- the room for the root of a definition
-pub root_room : (old : List NodeSpec) (t u : TypeTree) → old ≡ [] → t ≡ u → IsKindTree (kinds_of u) → CanAdd old (kinds_of t)
+pub root_room : (old : List NodeSpec) (t u : TypeTree) → old ≡ [] → t ≡ u → IsKindTree (kinds_of u)
+    → CanAdd old (kinds_of t)
 root_room old t u eo et h =
     let none : length old ≡ 0 = ap length eo in
-    subst (λ z. CanAdd old (kinds_of z)) (sym et) (record { formed = h.formed; room = omega (arith, none, h.few) })
+    subst (λ z. CanAdd old (kinds_of z)) (sym et) (record {
+      formed = h.formed;
+      room = omega (arith, none, h.few);
+    })
 
-pub root_added : (old new : List NodeSpec) (t u : TypeTree) → old ≡ [] → t ≡ u → Adds old new (kinds_of t) 0 0 → new ≡ [] ++ all_nodes (blank (kinds_of u))
+pub root_added : (old new : List NodeSpec) (t u : TypeTree) → old ≡ [] → t ≡ u → Adds old new (kinds_of t) 0 0
+    → new ≡ [] ++ all_nodes (blank (kinds_of u))
 root_added old new t u eo et h =
-    subst (λ o. new ≡ o ++ nodes_of (blank (kinds_of u)) kinds.Struct (length o) 0 0 0) eo (subst (λ z. Adds old new (kinds_of z) 0 0) et h)
+    subst (λ o. new ≡ o ++ nodes_of (blank (kinds_of u)) kinds.Struct (length o) 0 0 0) eo
+    (subst (λ z. Adds old new (kinds_of z) 0 0) et h)
 
 -- a shape is a layout within the limits
 mutual
@@ -119,14 +135,22 @@ mutual
   blank_alike (Optional w l) = optional tt (blank_alike l)
   blank_alike (Struct ls) = struct (all_blank_alike ls)
 
-  all_blank_alike : (ks : KindTrees) → AllLeafwise (λ (k : LeafKind) (a : Unit {0}) (c : Coded). Unit {0}) (λ (b : Unit {0}) (d : ℕ). Unit {0}) (λ (b : Unit {0}) (d : ℕ). Unit {0}) ks (layouts_in Version2 (all_blank ks))
+  all_blank_alike : (ks : KindTrees)
+      → AllLeafwise (λ (k : LeafKind) (a : Unit {0}) (c : Coded). Unit {0})
+      (λ (b : Unit {0}) (d : ℕ). Unit {0}) (λ (b : Unit {0}) (d : ℕ). Unit {0}) ks
+      (layouts_in Version2 (all_blank ks))
   all_blank_alike NoField = no_field
   all_blank_alike (Field i l ls) = field (blank_alike l) (all_blank_alike ls)
 
 pub shape_described : (k : KindTree) → IsKindTree k → IsStruct k → IsDescribed (shape_of k)
 shape_described k h r = record {
   relaxing = tt;
-  layout = record { root = struct_along (blank_alike k) r; kind_tree = kind_tree_along (blank_alike k) h; coded = blank_coded k; legal = blank_legal k };
+  layout = record {
+    root = struct_along (blank_alike k) r;
+    kind_tree = kind_tree_along (blank_alike k) h;
+    coded = blank_coded k;
+    legal = blank_legal k;
+  };
 }
 
 -- all its widths are 0

@@ -1,7 +1,9 @@
 -- Parts by their number.
 use Rattle.std.proofs.Common.{◌≡◌, ℕ, zero, suc, ◌+◌, ◌-◌, ◌<◌, ◌≤◌, true, false, nat_lt, arith, refl}
 use Rattle.std.proofs.lemmas.Bool.Decides.{nat_tests}
-use Rattle.frozen_model.specs.Trees.{Tree, Trees, Leaf, ByteRange, ItemRange, Optional, Struct, nodes, nodes_all, Part, itself, in_item, in_optional, in_struct, PartAll, in_first, in_later}
+use Rattle.frozen_model.specs.Trees.{Tree, Trees, Leaf, ByteRange, ItemRange, Optional, Struct, nodes}
+use Rattle.frozen_model.specs.Trees.{nodes_all, Part, itself, in_item, in_optional, in_struct, PartAll}
+use Rattle.frozen_model.specs.Trees.{in_first, in_later}
 use Rattle.layout_tree.specs.Listing.{sub, sub_all}
 
 mutual
@@ -22,7 +24,8 @@ mutual
   part_high (in_optional p) = omega (arith, part_high p)
   part_high (in_struct p) = omega (arith, part_high_all p)
 
-  pub part_high_all : {A B : Type 0} {ts : Trees A B} {s : Tree A B} {i n : ℕ} → PartAll ts i s n → n + nodes s ≤ i + nodes_all ts
+  pub part_high_all : {A B : Type 0} {ts : Trees A B} {s : Tree A B} {i n : ℕ} → PartAll ts i s n → n
+      + nodes s ≤ i + nodes_all ts
   part_high_all (in_first p) = omega (arith, part_high p)
   part_high_all (in_later p) = omega (arith, part_high_all p)
 
@@ -55,7 +58,8 @@ mutual
   part_sub (in_struct p) zero e = absurd (omega (arith, part_low_all p))
   part_sub (in_struct p) (suc k) e = part_sub_all p k (omega arith)
 
-  pub part_sub_all : {A B : Type 0} {ts : Trees A B} {s : Tree A B} {i n : ℕ} → PartAll ts i s n → (k : ℕ) → n ≡ i + k → sub_all ts k ≡ s
+  pub part_sub_all : {A B : Type 0} {ts : Trees A B} {s : Tree A B} {i n : ℕ} → PartAll ts i s n → (k : ℕ) → n
+      ≡ i + k → sub_all ts k ≡ s
   part_sub_all (in_first {l = l} {s = s} p) k e =
       let lt : k < nodes l = omega (arith, part_high p, some_node s) in
       let t = below_test k (nodes l) lt in
@@ -67,13 +71,15 @@ mutual
 
 -- a part of a part
 mutual
-  pub part_of_part : {A B : Type 0} {t u s : Tree A B} {i n m : ℕ} → Part t i u n → Part u n s m → Part t i s m
+  pub part_of_part : {A B : Type 0} {t u s : Tree A B} {i n m : ℕ} → Part t i u n → Part u n s m
+      → Part t i s m
   part_of_part itself q = q
   part_of_part (in_item p) q = in_item (part_of_part p q)
   part_of_part (in_optional p) q = in_optional (part_of_part p q)
   part_of_part (in_struct p) q = in_struct (part_of_part_all p q)
 
-  pub part_of_part_all : {A B : Type 0} {ts : Trees A B} {u s : Tree A B} {i n m : ℕ} → PartAll ts i u n → Part u n s m → PartAll ts i s m
+  pub part_of_part_all : {A B : Type 0} {ts : Trees A B} {u s : Tree A B} {i n m : ℕ} → PartAll ts i u n
+      → Part u n s m → PartAll ts i s m
   part_of_part_all (in_first p) q = in_first (part_of_part p q)
   part_of_part_all (in_later p) q = in_later (part_of_part_all p q)
 

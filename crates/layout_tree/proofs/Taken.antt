@@ -1,14 +1,21 @@
 -- A layout from the list of its nodes.
-use Rattle.std.proofs.Common.{◌≡◌, ℕ, ℤ, Bool, true, false, nat_eq, ◌+◌, ◌≤◌, List, [], ◌++◌, arith, refl, ap, sym, ◌∙◌, subst, length, map, take, drop, w32}
+use Rattle.std.proofs.Common.{◌≡◌, ℕ, ℤ, Bool, true, false, nat_eq, ◌+◌, ◌≤◌, List, [], ◌++◌, arith, refl, ap}
+use Rattle.std.proofs.Common.{sym, ◌∙◌, subst, length, map, take, drop, w32}
 use Rattle.std.proofs.lemmas.List.{append-nil}
 use mir.Val.{of_z}
-use Rattle.frozen_model.specs.Trees.{KindTree, LeafKind, Leaf, ByteRange, ItemRange, Optional, Struct, NoField, Field, nodes, nodes_all, kinds as kinds_of, kinds_all, IsStruct, IsKindTree}
-use Rattle.frozen_model.specs.Layouts.{Version, Version1, Version2, Coded, width, IsCoded, flag_coded, signed_coded, based_coded, Layout, Layouts, OfVersion, AllOfVersion, Legal, Described, described, MayRelax}
+use Rattle.frozen_model.specs.Trees.{KindTree, LeafKind, Leaf, ByteRange, ItemRange, Optional, Struct}
+use Rattle.frozen_model.specs.Trees.{NoField, Field, nodes, nodes_all, kinds as kinds_of, kinds_all, IsStruct}
+use Rattle.frozen_model.specs.Trees.{IsKindTree}
+use Rattle.frozen_model.specs.Layouts.{Version, Version1, Version2, Coded, width, IsCoded, flag_coded}
+use Rattle.frozen_model.specs.Layouts.{signed_coded, based_coded, Layout, Layouts, OfVersion, AllOfVersion}
+use Rattle.frozen_model.specs.Layouts.{Legal, Described, described, MayRelax}
 use Rattle.frozen_laws.proofs.SameKinds.{struct_along, kind_tree_along, kinds_alike}
 use Rattle.layout_tree.specs.declared.node.NodeSpec.{NodeSpec}
 use Rattle.layout_tree.specs.declared.node.FormVersion.{FormVersion}
 use Rattle.layout_tree.specs.declared.node.Kind.TheVariants as kinds
-use Rattle.layout_tree.specs.Listing.{Noted, AllNoted, coded, layout_in, layouts_in, settled, settled_all, tree_of, all_nodes, IsListing, version_of, version_number, IsNotedLayout}
+use Rattle.layout_tree.specs.Listing.{Noted, AllNoted, coded, layout_in, layouts_in, settled, settled_all}
+use Rattle.layout_tree.specs.Listing.{tree_of, all_nodes, IsListing, version_of, version_number}
+use Rattle.layout_tree.specs.Listing.{IsNotedLayout}
 use Rattle.layout_tree.specs.Reading.{base_of}
 use Rattle.layout_tree.specs.Given.{shown, resting, noted_from, all_noted_from, IsListOf}
 use Rattle.layout_tree.specs.Marking.{Unmarked, Marked}
@@ -50,7 +57,8 @@ mutual
   settled_from : (l : Layout) → settled (noted_from l) ≡ noted_from l
   settled_from (Leaf k c) = refl
   settled_from (ByteRange t d c) = refl
-  settled_from (ItemRange g d c l) = ap (λ (m : Noted). ItemRange g (resting d) (resting c) m) (settled_from l)
+  settled_from (ItemRange g d c l) = ap (λ (m : Noted). ItemRange g (resting d) (resting c) m)
+      (settled_from l)
   settled_from (Optional w l) = ap (λ (m : Noted). Optional (resting w) m) (settled_from l)
   settled_from (Struct ls) = ap (λ (m : AllNoted). Struct m) (all_settled_from ls)
 
@@ -70,27 +78,41 @@ mutual
   all_nodes_from NoField = refl
   all_nodes_from (Field i l ls) = let e = nodes_from l in let f = all_nodes_from ls in cc
 
-sound_from : (e : FormVersion) (d : Described) (ns : List NodeSpec) (z : ℤ) (r : Bool) → IsListOf d ns z r → version_of e ≡ d.version → IsNotedLayout e (noted_from d.tree)
+sound_from : (e : FormVersion) (d : Described) (ns : List NodeSpec) (z : ℤ) (r : Bool) → IsListOf d ns z r
+    → version_of e ≡ d.version → IsNotedLayout e (noted_from d.tree)
 sound_from e d ns z r h ev =
     let l = d.tree in
     let k : kinds_of l ≡ kinds_of (noted_from l) = sym (kinds_from l) in
-    let of : OfVersion (version_of e) l = subst (λ (v : Version). OfVersion v l) (sym ev) h.described.layout.coded in
+    let of : OfVersion (version_of e) l = subst (λ (v : Version). OfVersion v l) (sym ev)
+    h.described.layout.coded in
     let same : l ≡ layout_in (version_of e) (noted_from l) = sym (layout_from (version_of e) l of) in
-    let legal : Legal (layout_in (version_of e) (noted_from l)) = subst (λ (m : Layout). Legal m) same h.described.layout.legal in
+    let legal : Legal (layout_in (version_of e) (noted_from l)) = subst (λ (m : Layout). Legal m) same
+    h.described.layout.legal in
     record {
       root = subst (λ (m : KindTree). IsStruct m) k (struct_along (kinds_alike l) h.described.layout.root);
-      kind_tree = subst (λ (m : KindTree). IsKindTree m) k (kind_tree_along (kinds_alike l) h.described.layout.kind_tree);
+      kind_tree = subst (λ (m : KindTree). IsKindTree m) k
+          (kind_tree_along (kinds_alike l) h.described.layout.kind_tree);
       coded = subst (λ (m : Layout). OfVersion (version_of e) m) same of;
       legal = legal;
       noted = subst (λ (t : Noted). Legal (layout_in (version_of e) t)) (sym (settled_from l)) legal;
     }
 
-pub few_given : {d : Described} {ns : List NodeSpec} {z : ℤ} {r : Bool} (xs : List NodeSpec) → xs ≡ ns → IsListOf d ns z r → length xs ≤ 4096
+pub few_given : {d : Described} {ns : List NodeSpec} {z : ℤ} {r : Bool} (xs : List NodeSpec) → xs ≡ ns
+    → IsListOf d ns z r → length xs ≤ 4096
 few_given {d} xs x h =
-    omega (arith, ap length (x ∙ h.nodes), shown_length (all_nodes (noted_from d.tree)), length_nodes (noted_from d.tree) kinds.Struct 0 0 0 0, nodes_from d.tree, h.described.layout.kind_tree.few)
+    omega (
+      arith,
+      ap length (x ∙ h.nodes),
+      shown_length (all_nodes (noted_from d.tree)),
+      length_nodes
+          (noted_from d.tree) kinds.Struct 0 0 0 0,
+      nodes_from d.tree,
+      h.described.layout.kind_tree.few,
+    )
 
 -- the whole list, lent as xs
-abbrev pub whole_given : {d : Described} {ns : List NodeSpec} {z : ℤ} {r : Bool} (xs : List NodeSpec) → xs ≡ ns → IsListOf d ns z r → Unmarked xs 0
+abbrev pub whole_given : {d : Described} {ns : List NodeSpec} {z : ℤ} {r : Bool} (xs : List NodeSpec) → xs
+    ≡ ns → IsListOf d ns z r → Unmarked xs 0
 whole_given {d} {ns} {z} {r} xs x h = record {
   tree = noted_from d.tree;
   kind = kinds.Struct;
@@ -113,9 +135,11 @@ pub record Takes (d : Described) (e : FormVersion) (r : Bool) (ms : List NodeSpe
   pub sound : ∥ IsNotedLayout e (tree_of ms) ∥₁
   pub relaxing : ∥ MayRelax (version_of e) r ∥₁
   pub layout : described (version_of e) r (layout_in (version_of e) (tree_of ms)) ≡ d
-  pub settled : described (version_of e) r (layout_in (version_of e) (settled (tree_of ms))) ≡ described (version_of e) r (layout_in (version_of e) (tree_of ms))
+  pub settled : described (version_of e) r (layout_in (version_of e) (settled (tree_of ms)))
+      ≡ described (version_of e) r (layout_in (version_of e) (tree_of ms))
 
-pub takes : (d : Described) (ns xs ms : List NodeSpec) (z : ℤ) (r : Bool) (e : FormVersion) (n b : ℕ) (x : xs ≡ ns) (h : IsListOf d ns z r) → version_of e ≡ d.version → n ≡ length ns → length ms ≡ length ns
+pub takes : (d : Described) (ns xs ms : List NodeSpec) (z : ℤ) (r : Bool) (e : FormVersion) (n b : ℕ)
+    (x : xs ≡ ns) (h : IsListOf d ns z r) → version_of e ≡ d.version → n ≡ length ns → length ms ≡ length ns
     → Marked (whole_given xs x h) ms b → Takes d e r (take n (ms ++ drop (length ms) ns))
 takes d ns xs ms z r e n b x h ev en el done =
     let l = d.tree in
@@ -128,14 +152,18 @@ takes d ns xs ms z r e n b x h ev en el done =
     record {
       listing = is ∙ ap all_nodes (sym tells);
       sound = subst (λ (m : Noted). ∥ IsNotedLayout e m ∥₁) (sym tells) ∣ sound_from e d ns z r h ev ∣₁;
-      relaxing = ∣ subst (λ (w : Version). MayRelax w r) (sym ev) (subst (λ (b : Bool). MayRelax d.version b) (sym h.relaxes) h.described.relaxing) ∣₁;
-      layout = ap (λ (m : Layout). described v r m) (ap (layout_in v) tells ∙ layout_from v l of) ∙ ap (λ (w : Version). described w r l) ev ∙ ap (λ (b : Bool). described d.version b l) h.relaxes;
-      settled = ap (λ (m : Noted). described v r (layout_in v m)) (ap settled tells ∙ settled_from l ∙ sym tells);
+      relaxing = ∣ subst (λ (w : Version). MayRelax w r) (sym ev)
+          (subst (λ (b : Bool). MayRelax d.version b) (sym h.relaxes) h.described.relaxing) ∣₁;
+      layout = ap (λ (m : Layout). described v r m) (ap (layout_in v) tells ∙ layout_from v l of)
+          ∙ ap (λ (w : Version). described w r l) ev ∙ ap (λ (b : Bool). described d.version b l) h.relaxes;
+      settled = ap (λ (m : Noted). described v r (layout_in v m))
+          (ap settled tells ∙ settled_from l ∙ sym tells);
     }
 
 -- the version of a number
 pub second_is : (v : Version) (z : ℤ) → z ≡ version_number v → of_z w32 z ≡ 2 → Version2 ≡ v
-second_is Version1 z e h = let x : false ≡ true = ap (λ k. nat_eq k 2) (sym (ap (of_z w32) e)) ∙ ap (λ k. nat_eq k 2) h in absurd cc
+second_is Version1 z e h = let x : false ≡ true = ap (λ k. nat_eq k 2) (sym (ap (of_z w32) e))
+    ∙ ap (λ k. nat_eq k 2) h in absurd cc
 second_is Version2 z e h = refl
 
 pub first_is : (v : Version) (z : ℤ) → z ≡ version_number v → (of_z w32 z ≡ 2 → ⊥) → Version1 ≡ v

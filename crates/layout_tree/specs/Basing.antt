@@ -1,6 +1,7 @@
 -- A layout with another base at a leaf.
 use Rattle.std.specs.Prelude.{ℕ, zero, suc, ℤ, ◌-◌, ◌<◌, ◌≤◌, ◌⊎◌, Bool, true, false, nat_lt, if◌then◌else◌}
-use Rattle.frozen_model.specs.Trees.{Integer, Leaf, ItemRange, Optional, Struct, NoField, Field, nodes, value_bits}
+use Rattle.frozen_model.specs.Trees.{Integer, Leaf, ItemRange, Optional, Struct, NoField, Field, nodes}
+use Rattle.frozen_model.specs.Trees.{value_bits}
 use Rattle.frozen_model.specs.Values.{InBits}
 use Rattle.layout_tree.specs.Listing.{Noted, AllNoted}
 
@@ -15,7 +16,8 @@ abbrev mutual
 
   pub all_based_at : AllNoted → ℕ → ℤ → AllNoted
   all_based_at NoField k b = NoField
-  all_based_at (Field id l ls) k b = if nat_lt k (nodes l) then Field id (based_at l k b) ls else Field id l (all_based_at ls (k - nodes l) b)
+  all_based_at (Field id l ls) k b = if nat_lt k (nodes l) then Field id (based_at l k b) ls else Field id l
+      (all_based_at ls (k - nodes l) b)
 
 -- the k-th node of a tree is a leaf of whole numbers of a kind that b is in the range of
 abbrev mutual
@@ -28,7 +30,8 @@ abbrev mutual
 
   pub BaseAmong : AllNoted → ℕ → ℤ → Type 0
   BaseAmong NoField k b = ⊥
-  BaseAmong (Field id l ls) k b = ((k < nodes l) × BaseAt l k b) ⊎ ((nodes l ≤ k) × BaseAmong ls (k - nodes l) b)
+  BaseAmong (Field id l ls) k b = ((k < nodes l) × BaseAt l k b)
+      ⊎ ((nodes l ≤ k) × BaseAmong ls (k - nodes l) b)
 
 -- whether the k-th node of a tree is a leaf of whole numbers
 abbrev mutual

@@ -1,4 +1,5 @@
--- Layouts as lists of nodes that are given and shown: each node with a width where the kept list has the number after its nodes.
+-- Layouts as lists of nodes that are given and shown: each node with a width where the kept list has the
+-- number after its nodes.
 use Rattle.std.specs.Prelude.{◌≡◌, ℕ, List, map, Bool, ℤ}
 use Rattle.frozen_model.specs.Trees.{Leaf, ByteRange, ItemRange, Optional, Struct, NoField, Field}
 use Rattle.frozen_model.specs.Layouts.{Layout, Layouts, Described, IsDescribed, width}
@@ -8,7 +9,8 @@ use Rattle.layout_tree.specs.declared.node.Kind.TheVariants as kinds
 use Rattle.layout_tree.specs.Listing.{Width, Noted, AllNoted, all_nodes, version_number}
 use Rattle.layout_tree.specs.Reading.{base_of}
 
--- the width that is noted for a leaf, of these bits and kept number; where there are nodes below it is the bits
+-- the width that is noted for a leaf, of these bits and kept number; where there are nodes below it is the
+-- bits
 abbrev pub shown_wide : Kind → ℕ → ℕ → ℕ
 shown_wide kinds.Flag b w = w
 shown_wide kinds.I8 b w = w

@@ -1,7 +1,12 @@
 -- The nodes of a layout in preorder, and the layout that nodes list.
-use Rattle.std.specs.Prelude.{◌≡◌, ℕ, zero, suc, ◌+◌, ◌-◌, List, [], ◌∷◌, ◌++◌, ℤ, pos, nat_lt, ◌==◌, if◌then◌else◌, unsigned_abs}
-use Rattle.frozen_model.specs.Trees.{I8, I16, I32, I64, LeafKind, Flag, Integer, ByteKind, Text, Binary, Holder, AList, ASet, AMap, Tree, Trees, Leaf, ByteRange, ItemRange, Optional, Struct, NoField, Field, nodes, nodes_all, kinds, IsStruct, IsKindTree}
-use Rattle.frozen_model.specs.Layouts.{Version, Version1, Version2, Coded, Unsigned, TwosComplement, FromBase, Layout, Layouts, OfVersion, Legal}
+use Rattle.std.specs.Prelude.{◌≡◌, ℕ, zero, suc, ◌+◌, ◌-◌, List, [], ◌∷◌, ◌++◌, ℤ, pos, nat_lt, ◌==◌}
+use Rattle.std.specs.Prelude.{if◌then◌else◌, unsigned_abs}
+use Rattle.frozen_model.specs.Trees.{I8, I16, I32, I64, LeafKind, Flag, Integer, ByteKind, Text, Binary}
+use Rattle.frozen_model.specs.Trees.{Holder, AList, ASet, AMap, Tree, Trees, Leaf, ByteRange, ItemRange}
+use Rattle.frozen_model.specs.Trees.{Optional, Struct, NoField, Field, nodes, nodes_all, kinds, IsStruct}
+use Rattle.frozen_model.specs.Trees.{IsKindTree}
+use Rattle.frozen_model.specs.Layouts.{Version, Version1, Version2, Coded, Unsigned, TwosComplement, FromBase}
+use Rattle.frozen_model.specs.Layouts.{Layout, Layouts, OfVersion, Legal}
 use Rattle.layout_tree.specs.declared.node.NodeSpec.{NodeSpec}
 use Rattle.layout_tree.specs.declared.node.FormVersion.{FormVersion}
 use Rattle.layout_tree.specs.declared.node.FormVersion.TheVariants.{First, Second}
@@ -105,22 +110,28 @@ spec k f p b w o z = record { kind = k; field = pos f; parent = p; bits = b; wid
 abbrev pub size : ℕ → ℕ → Width → ℕ → NodeSpec
 size f p w o = spec k.Size f p w.bits w.wide o (pos 0)
 
--- The nodes of a tree, as they are kept: the first of them has this number, parent, field and offset, and is of the kind sk
--- where it is a struct. A node with nodes below it has the number after them in the place of a noted width.
+-- The nodes of a tree, as they are kept: the first of them has this number, parent, field and offset, and is
+-- of the kind sk where it is a struct. A node with nodes below it has the number after them in the place of a
+-- noted width.
 abbrev mutual
   pub nodes_of : Noted → Kind → ℕ → ℕ → ℕ → ℕ → List NodeSpec
   nodes_of (Leaf k c) sk i p f o = spec (kind_of k) f p c.bits c.wide o c.base ∷ []
   nodes_of (ByteRange t d c) sk i p f o =
-      spec (kind_of_bytes t) f p (d.bits + c.bits) (suc (suc (suc i))) o (pos 0) ∷ size 1 i d 0 ∷ size 2 i c d.bits ∷ []
+      spec (kind_of_bytes t) f p (d.bits + c.bits) (suc (suc (suc i))) o (pos 0) ∷ size 1 i d 0
+      ∷ size 2 i c d.bits ∷ []
   nodes_of (ItemRange h d c l) sk i p f o =
-      spec (kind_of_holder h) f p (d.bits + c.bits) (suc (suc (suc i)) + nodes l) o (pos 0) ∷ size 1 i d 0 ∷ size 2 i c d.bits ∷ nodes_of l (item_struct h) (suc (suc (suc i))) i 3 0
+      spec (kind_of_holder h) f p (d.bits + c.bits) (suc (suc (suc i)) + nodes l) o (pos 0) ∷ size 1 i d 0
+      ∷ size 2 i c d.bits ∷ nodes_of l (item_struct h) (suc (suc (suc i))) i 3 0
   nodes_of (Optional w l) sk i p f o =
-      spec k.Optional f p (w.bits + inline l) (suc (suc i) + nodes l) o (pos 0) ∷ spec k.Flag 1 i w.bits w.wide 0 (pos 0) ∷ nodes_of l k.Struct (suc (suc i)) i 2 w.bits
-  nodes_of (Struct ls) sk i p f o = spec sk f p (inline_all ls) (suc i + nodes_all ls) o (pos 0) ∷ nodes_of_all ls (suc i) i 0
+      spec k.Optional f p (w.bits + inline l) (suc (suc i) + nodes l) o (pos 0)
+      ∷ spec k.Flag 1 i w.bits w.wide 0 (pos 0) ∷ nodes_of l k.Struct (suc (suc i)) i 2 w.bits
+  nodes_of (Struct ls) sk i p f o = spec sk f p (inline_all ls) (suc i + nodes_all ls) o (pos 0)
+      ∷ nodes_of_all ls (suc i) i 0
 
   pub nodes_of_all : AllNoted → ℕ → ℕ → ℕ → List NodeSpec
   nodes_of_all NoField i p o = []
-  nodes_of_all (Field id l ls) i p o = nodes_of l k.Struct i p id o ++ nodes_of_all ls (i + nodes l) p (o + inline l)
+  nodes_of_all (Field id l ls) i p o = nodes_of l k.Struct i p id o
+      ++ nodes_of_all ls (i + nodes l) p (o + inline l)
 
 -- ---- the tree that nodes list, read from the end
 
@@ -195,7 +206,11 @@ abbrev pub entries : ℕ → List NodeSpec → List Entry
 entries i [] = []
 entries i (s ∷ ss) =
     let es = entries (suc i) ss in
-    record { parent = s.parent; field = unsigned_abs s.field; read = built s.kind (leaf_of s) (kids i es) } ∷ past_kids i es
+    record {
+      parent = s.parent;
+      field = unsigned_abs s.field;
+      read = built s.kind (leaf_of s) (kids i es);
+    } ∷ past_kids i es
 
 abbrev pub first_tree : List Entry → Noted
 first_tree [] = Struct NoField
@@ -239,7 +254,8 @@ abbrev pub version_of : FormVersion → Version
 version_of First = Version1
 version_of Second = Version2
 
--- the root is a struct; the kinds are a kind tree; the bits make a layout of the version; no leaf has too great a width noted
+-- the root is a struct; the kinds are a kind tree; the bits make a layout of the version; no leaf has too
+-- great a width noted
 pub record IsNotedLayout (e : FormVersion) (t : Noted) : Type 0 where
   pub root : IsStruct (kinds t)
   pub kind_tree : IsKindTree (kinds t)

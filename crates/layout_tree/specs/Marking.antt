@@ -43,7 +43,8 @@ pub record Unmarked (ns : List NodeSpec) (at : ℕ) : Type 0 where
 
 -- the same list with the nodes as they are kept, and the number after them
 abbrev pub Marked : {ns : List NodeSpec} {at : ℕ} → Unmarked ns at → List NodeSpec → ℕ → Type 0
-Marked {ns} {at} g ms end = (ms ≡ g.pre ++ (nodes_of g.tree g.kind g.number g.parent g.field g.offset ++ g.post)) × (end ≡ at + nodes g.tree)
+Marked {ns} {at} g ms end = (ms ≡ g.pre
+    ++ (nodes_of g.tree g.kind g.number g.parent g.field g.offset ++ g.post)) × (end ≡ at + nodes g.tree)
 
 -- the nodes below a node stand in a list after it, as they are given
 pub record UnmarkedBelow (ns : List NodeSpec) (at : ℕ) : Type 0 where
@@ -61,7 +62,8 @@ pub record UnmarkedBelow (ns : List NodeSpec) (at : ℕ) : Type 0 where
   pub few : length ns ≤ 4096
 
 abbrev pub BelowMarked : {ns : List NodeSpec} {at : ℕ} → UnmarkedBelow ns at → List NodeSpec → ℕ → Type 0
-BelowMarked {ns} {at} g ms end = (ms ≡ g.pre ++ (g.head ∷ (rest_nodes g.tree g.number ++ g.post))) × (end ≡ at + nodes g.tree)
+BelowMarked {ns} {at} g ms end = (ms ≡ g.pre ++ (g.head ∷ (rest_nodes g.tree g.number ++ g.post)))
+    × (end ≡ at + nodes g.tree)
 
 -- the nodes of the fields of a struct stand in a list after it, as they are given
 pub record UnmarkedFields (ns : List NodeSpec) (at : ℕ) : Type 0 where
@@ -76,4 +78,5 @@ pub record UnmarkedFields (ns : List NodeSpec) (at : ℕ) : Type 0 where
   pub few : length ns ≤ 4096
 
 abbrev pub FieldsMarked : {ns : List NodeSpec} {at : ℕ} → UnmarkedFields ns at → List NodeSpec → ℕ → Type 0
-FieldsMarked {ns} {at} g ms end = (ms ≡ g.pre ++ (nodes_of_all g.fields (suc g.number) g.number 0 ++ g.post)) × (end ≡ suc at + nodes_all g.fields)
+FieldsMarked {ns} {at} g ms end = (ms ≡ g.pre ++ (nodes_of_all g.fields (suc g.number) g.number 0 ++ g.post))
+    × (end ≡ suc at + nodes_all g.fields)

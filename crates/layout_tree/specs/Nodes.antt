@@ -1,4 +1,5 @@
--- What a `Layouts` tells: a layout with its version and whether it is relaxed, and the layout that settling would make.
+-- What a `Layouts` tells: a layout with its version and whether it is relaxed, and the layout that settling
+-- would make.
 use Rattle.std.specs.Prelude.{◌≡◌, ℕ, ◌<◌, List}
 use Rattle.frozen_model.specs.Trees.{Part, nodes}
 use Rattle.frozen_model.specs.Layouts.{Layout, Described, described}
@@ -17,7 +18,8 @@ layout_of l = described (version_of l.version) l.relaxed (layout_in (version_of 
 
 -- the layout of the widths that are noted
 abbrev pub settled_of : Layouts → Described
-settled_of l = described (version_of l.version) l.relaxed (layout_in (version_of l.version) (settled (noted_in l)))
+settled_of l = described (version_of l.version) l.relaxed
+    (layout_in (version_of l.version) (settled (noted_in l)))
 
 -- each leaf has the width that is noted for it
 abbrev pub IsSettled : Layouts → Type 0

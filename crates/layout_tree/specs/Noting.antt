@@ -1,6 +1,7 @@
 -- A layout with another width noted at a leaf.
 use Rattle.std.specs.Prelude.{ℕ, zero, suc, ◌-◌, ◌<◌, ◌≤◌, ◌⊎◌, nat_lt, if◌then◌else◌}
-use Rattle.frozen_model.specs.Trees.{Leaf, ByteRange, ItemRange, Optional, Struct, NoField, Field, nodes, greatest}
+use Rattle.frozen_model.specs.Trees.{Leaf, ByteRange, ItemRange, Optional, Struct, NoField, Field, nodes}
+use Rattle.frozen_model.specs.Trees.{greatest}
 use Rattle.layout_tree.specs.Listing.{Width, Noted, AllNoted}
 
 abbrev pub noting : Width → ℕ → Width
@@ -22,7 +23,8 @@ abbrev mutual
 
   pub all_noted_at : AllNoted → ℕ → ℕ → AllNoted
   all_noted_at NoField k w = NoField
-  all_noted_at (Field id l ls) k w = if nat_lt k (nodes l) then Field id (noted_at l k w) ls else Field id l (all_noted_at ls (k - nodes l) w)
+  all_noted_at (Field id l ls) k w = if nat_lt k (nodes l) then Field id (noted_at l k w) ls else Field id l
+      (all_noted_at ls (k - nodes l) w)
 
 -- the k-th node of a tree is a leaf, and w is at most its greatest width
 abbrev mutual
@@ -40,7 +42,8 @@ abbrev mutual
 
   pub LeafAmong : AllNoted → ℕ → ℕ → Type 0
   LeafAmong NoField k w = ⊥
-  LeafAmong (Field id l ls) k w = ((k < nodes l) × LeafAt l k w) ⊎ ((nodes l ≤ k) × LeafAmong ls (k - nodes l) w)
+  LeafAmong (Field id l ls) k w = ((k < nodes l) × LeafAt l k w)
+      ⊎ ((nodes l ≤ k) × LeafAmong ls (k - nodes l) w)
 
 -- the width that is noted at the k-th node of a tree, where that is a leaf
 abbrev mutual

@@ -1,7 +1,8 @@
 -- What can be read at a node.
 use Rattle.std.specs.Prelude.{ℕ, suc, ◌+◌, ℤ, pos, Option, Some, None, Bool, true, false, ◌&&◌, if◌then◌else◌}
 use Rattle.std.specs.Ordering.{int_eq}
-use Rattle.frozen_model.specs.Trees.{Leaf, ByteRange, ItemRange, Optional, Struct, Tree, Trees, NoField, Field, nodes}
+use Rattle.frozen_model.specs.Trees.{Leaf, ByteRange, ItemRange, Optional, Struct, Tree, Trees, NoField}
+use Rattle.frozen_model.specs.Trees.{Field, nodes}
 use Rattle.frozen_model.specs.Layouts.{Layout, stride, Coded, Unsigned, TwosComplement, FromBase}
 use Rattle.layout_tree.specs.declared.node.Kind.{Kind}
 use Rattle.layout_tree.specs.declared.node.Kind.TheVariants as kinds
@@ -88,14 +89,19 @@ field_node (Field f l ls) i id = if int_eq (pos f) id then Some i else field_nod
 
 -- the same where two or three children follow the node, with the fields 1, 2 and 3
 abbrev pub nth_child_of : ℕ → ℤ → ℤ → Option ℕ
-nth_child_of i most id = if int_eq id (pos 1) then Some (i + 1) else (if int_eq id (pos 2) then Some (i + 2) else (if int_eq id (pos 3) && int_eq most (pos 3) then Some (i + 3) else None))
+nth_child_of i most id = if int_eq id (pos 1) then Some (i + 1) else
+    (if int_eq id (pos 2) then Some (i + 2) else
+    (if int_eq id (pos 3) && int_eq most (pos 3) then Some (i + 3) else None))
 
 -- the number of a node's child by its field
 abbrev pub child_of : {A B : Type 0} → Tree A B → ℕ → ℤ → Option ℕ
 child_of (Leaf k c) i id = None
-child_of (ByteRange t d c) i id = if int_eq id (pos 1) then Some (i + 1) else (if int_eq id (pos 2) then Some (i + 2) else None)
-child_of (ItemRange h d c l) i id = if int_eq id (pos 1) then Some (i + 1) else (if int_eq id (pos 2) then Some (i + 2) else (if int_eq id (pos 3) then Some (i + 3) else None))
-child_of (Optional w l) i id = if int_eq id (pos 1) then Some (i + 1) else (if int_eq id (pos 2) then Some (i + 2) else None)
+child_of (ByteRange t d c) i id = if int_eq id (pos 1) then Some (i + 1) else
+    (if int_eq id (pos 2) then Some (i + 2) else None)
+child_of (ItemRange h d c l) i id = if int_eq id (pos 1) then Some (i + 1) else
+    (if int_eq id (pos 2) then Some (i + 2) else (if int_eq id (pos 3) then Some (i + 3) else None))
+child_of (Optional w l) i id = if int_eq id (pos 1) then Some (i + 1) else
+    (if int_eq id (pos 2) then Some (i + 2) else None)
 child_of (Struct ls) i id = field_node ls (suc i) id
 
 abbrev pub IsStruct : {A B : Type 0} → Tree A B → Type 0

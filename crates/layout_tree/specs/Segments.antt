@@ -1,10 +1,13 @@
 -- Parts of a list of nodes.
 use Rattle.std.specs.Prelude.{◌≡◌, ℕ, suc, ◌+◌, ◌^◌, ◌<◌, List, [], ◌∷◌, ◌++◌, length, pos}
-use Rattle.frozen_model.specs.Trees.{Leaf, ByteRange, ItemRange, Optional, Struct, NoField, Field, nodes, nodes_all}
+use Rattle.frozen_model.specs.Trees.{Leaf, ByteRange, ItemRange, Optional, Struct, NoField, Field, nodes}
+use Rattle.frozen_model.specs.Trees.{nodes_all}
 use Rattle.layout_tree.specs.declared.node.NodeSpec.{NodeSpec}
 use Rattle.layout_tree.specs.declared.node.Kind.{Kind}
 use Rattle.layout_tree.specs.declared.node.Kind.TheVariants as kinds
-use Rattle.layout_tree.specs.Listing.{Noted, AllNoted, inline, inline_all, settled, settled_all, kind_of, kind_of_bytes, kind_of_holder, item_struct, spec, size, nodes_of, nodes_of_all}
+use Rattle.layout_tree.specs.Listing.{Noted, AllNoted, inline, inline_all, settled, settled_all, kind_of}
+use Rattle.layout_tree.specs.Listing.{kind_of_bytes, kind_of_holder, item_struct, spec, size, nodes_of}
+use Rattle.layout_tree.specs.Listing.{nodes_of_all}
 
 -- the kinds that a struct has
 abbrev pub IsStructKind : Kind → Type 0
@@ -15,16 +18,21 @@ IsStructKind _ = ⊥
 -- the first node of a tree, and the nodes after it
 abbrev pub head_node : Noted → Kind → ℕ → ℕ → ℕ → ℕ → NodeSpec
 head_node (Leaf k c) sk i p f o = spec (kind_of k) f p c.bits c.wide o c.base
-head_node (ByteRange t d c) sk i p f o = spec (kind_of_bytes t) f p (d.bits + c.bits) (suc (suc (suc i))) o (pos 0)
-head_node (ItemRange h d c l) sk i p f o = spec (kind_of_holder h) f p (d.bits + c.bits) (suc (suc (suc i)) + nodes l) o (pos 0)
-head_node (Optional w l) sk i p f o = spec kinds.Optional f p (w.bits + inline l) (suc (suc i) + nodes l) o (pos 0)
+head_node (ByteRange t d c) sk i p f o = spec (kind_of_bytes t) f p (d.bits + c.bits) (suc (suc (suc i))) o
+    (pos 0)
+head_node (ItemRange h d c l) sk i p f o = spec (kind_of_holder h) f p (d.bits + c.bits)
+    (suc (suc (suc i)) + nodes l) o (pos 0)
+head_node (Optional w l) sk i p f o = spec kinds.Optional f p (w.bits + inline l) (suc (suc i) + nodes l) o
+    (pos 0)
 head_node (Struct ls) sk i p f o = spec sk f p (inline_all ls) (suc i + nodes_all ls) o (pos 0)
 
 abbrev pub rest_nodes : Noted → ℕ → List NodeSpec
 rest_nodes (Leaf k c) i = []
 rest_nodes (ByteRange t d c) i = size 1 i d 0 ∷ size 2 i c d.bits ∷ []
-rest_nodes (ItemRange h d c l) i = size 1 i d 0 ∷ size 2 i c d.bits ∷ nodes_of l (item_struct h) (suc (suc (suc i))) i 3 0
-rest_nodes (Optional w l) i = spec kinds.Flag 1 i w.bits w.wide 0 (pos 0) ∷ nodes_of l kinds.Struct (suc (suc i)) i 2 w.bits
+rest_nodes (ItemRange h d c l) i = size 1 i d 0 ∷ size 2 i c d.bits
+    ∷ nodes_of l (item_struct h) (suc (suc (suc i))) i 3 0
+rest_nodes (Optional w l) i = spec kinds.Flag 1 i w.bits w.wide 0 (pos 0)
+    ∷ nodes_of l kinds.Struct (suc (suc i)) i 2 w.bits
 rest_nodes (Struct ls) i = nodes_of_all ls (suc i) i 0
 
 -- all noted widths together
@@ -66,7 +74,9 @@ pub record Segment (ns : List NodeSpec) (at : ℕ) : Type 0 where
 
 -- the same list with the tree settled at an offset
 abbrev pub PartSettled : {ns : List NodeSpec} {at : ℕ} → Segment ns at → ℕ → List NodeSpec → ℕ → Type 0
-PartSettled g o ms bits = (ms ≡ g.pre ++ (nodes_of (settled g.tree) g.kind g.number g.parent g.field o ++ g.post)) × (bits ≡ inline (settled g.tree))
+PartSettled g o ms bits = (ms ≡ g.pre
+    ++ (nodes_of (settled g.tree) g.kind g.number g.parent g.field o ++ g.post))
+    × (bits ≡ inline (settled g.tree))
 
 -- the nodes below a node stand in a list after it
 pub record Below (ns : List NodeSpec) (at : ℕ) : Type 0 where
@@ -82,7 +92,8 @@ pub record Below (ns : List NodeSpec) (at : ℕ) : Type 0 where
   pub light : total tree < 2 ^ 32
 
 abbrev pub BelowSettled : {ns : List NodeSpec} {at : ℕ} → Below ns at → List NodeSpec → ℕ → Type 0
-BelowSettled g ms bits = (ms ≡ g.pre ++ (g.head ∷ (rest_nodes (settled g.tree) g.number ++ g.post))) × (bits ≡ inline (settled g.tree))
+BelowSettled g ms bits = (ms ≡ g.pre ++ (g.head ∷ (rest_nodes (settled g.tree) g.number ++ g.post)))
+    × (bits ≡ inline (settled g.tree))
 
 -- the nodes of fields stand in a list from a place on
 pub record Fields (ns : List NodeSpec) (at : ℕ) (end : ℕ) (sum : ℕ) : Type 0 where
@@ -98,5 +109,7 @@ pub record Fields (ns : List NodeSpec) (at : ℕ) (end : ℕ) (sum : ℕ) : Type
   pub whole : ns ≡ pre ++ (nodes_of_all fields number parent offset ++ post)
   pub light : sum + total_all fields < 2 ^ 32
 
-abbrev pub AllSettled : {ns : List NodeSpec} {at end sum : ℕ} → Fields ns at end sum → ℕ → List NodeSpec → ℕ → Type 0
-AllSettled g o ms bits = (ms ≡ g.pre ++ (nodes_of_all (settled_all g.fields) g.number g.parent o ++ g.post)) × (bits ≡ o + inline_all (settled_all g.fields))
+abbrev pub AllSettled : {ns : List NodeSpec} {at end sum : ℕ} → Fields ns at end sum → ℕ → List NodeSpec → ℕ
+    → Type 0
+AllSettled g o ms bits = (ms ≡ g.pre ++ (nodes_of_all (settled_all g.fields) g.number g.parent o ++ g.post))
+    × (bits ≡ o + inline_all (settled_all g.fields))

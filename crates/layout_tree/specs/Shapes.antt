@@ -5,7 +5,8 @@ use Rattle.idl_profile.specs.declared.kinds.Need.TheVariants as need
 use Rattle.idl_profile.specs.Types.{DefField, TypeTree, kind_of}
 use Rattle.idl_profile.specs.declared.kinds.TypeKind.TheVariants as types
 use Rattle.idl_parse.specs.Refs.{element_of}
-use Rattle.frozen_model.specs.Trees.{Holder, Leaf, ByteRange, ItemRange, Optional, Struct, NoField, Field, KindTree, KindTrees, nodes, IsFormed}
+use Rattle.frozen_model.specs.Trees.{Holder, Leaf, ByteRange, ItemRange, Optional, Struct, NoField, Field}
+use Rattle.frozen_model.specs.Trees.{KindTree, KindTrees, nodes, IsFormed}
 use Rattle.frozen_model.specs.Layouts.{Version2, Described, described}
 use Rattle.type_kinds.specs.KindsOf.{kinds_of}
 use Rattle.layout_tree.specs.declared.node.NodeSpec.{NodeSpec}
@@ -55,7 +56,8 @@ Adds old new k p f = new ≡ old ++ nodes_of (blank k) kinds.Struct (length old)
 
 -- the node of a range with this number, and those of its distance and count
 abbrev pub range_nodes : Kind → ℕ → ℕ → ℕ → List NodeSpec
-range_nodes k f p i = spec k f p 0 (i + 3) 0 (pos 0) ∷ spec kinds.Size 1 i 0 0 0 (pos 0) ∷ spec kinds.Size 2 i 0 0 0 (pos 0) ∷ []
+range_nodes k f p i = spec k f p 0 (i + 3) 0 (pos 0) ∷ spec kinds.Size 1 i 0 0 0 (pos 0)
+    ∷ spec kinds.Size 2 i 0 0 0 (pos 0) ∷ []
 
 -- a list or a set, with its kind
 pub record RowIs (k : Kind) (t : TypeTree) : Type 0 where
@@ -67,7 +69,15 @@ pub record RowIs (k : Kind) (t : TypeTree) : Type 0 where
 
 -- a node with another number in the place of the noted width
 abbrev pub marked : NodeSpec → ℕ → NodeSpec
-marked x w = record { kind = x.kind; field = x.field; parent = x.parent; bits = x.bits; wide = w; offset = x.offset; base = x.base }
+marked x w = record {
+  kind = x.kind;
+  field = x.field;
+  parent = x.parent;
+  bits = x.bits;
+  wide = w;
+  offset = x.offset;
+  base = x.base;
+}
 
 -- the number after the nodes below a node stays, and the noted width of a leaf goes
 abbrev pub cleared_wide : Kind → ℕ → ℕ
@@ -81,4 +91,12 @@ cleared_wide _ w = w
 
 -- a node with no bits, at offset 0 and from base 0
 abbrev pub cleared : NodeSpec → NodeSpec
-cleared x = record { kind = x.kind; field = x.field; parent = x.parent; bits = 0; wide = cleared_wide x.kind x.wide; offset = 0; base = pos 0 }
+cleared x = record {
+  kind = x.kind;
+  field = x.field;
+  parent = x.parent;
+  bits = 0;
+  wide = cleared_wide x.kind x.wide;
+  offset = 0;
+  base = pos 0;
+}

@@ -1,6 +1,7 @@
 //! The shape of a definition: the layout of its root with all widths and bases 0.
 
-ghost use Rattle.std.specs.Prelude.{◌≡◌, ◌+◌, ◌≤◌, ◌<◌, ◌∷◌, ◌++◌, [], List, length, pos, nat_abs, IfOk, ℕ, vec_len};
+ghost use Rattle.std.specs.Prelude.{◌≡◌, ◌+◌, ◌≤◌, ◌<◌, ◌∷◌, ◌++◌, [], List, length, pos, nat_abs, IfOk, ℕ};
+ghost use Rattle.std.specs.Prelude.{vec_len};
 ghost use Rattle.idl_profile.specs.Types.{root_of, fields_of, kind_of};
 ghost use Rattle.idl_parse.specs.Refs.{type_of_ref, field_of_ref, element_of};
 ghost use Rattle.idl_parse.specs.Parsed.{definition_of};
@@ -43,7 +44,8 @@ fn add_node(
     parent: u32,
 ) -> Result<(), AllocError>
     requires { field ≤ 32767 }
-    ensures added { IfOk result (λ _. nodes.new.items ≡ nodes.old.items ++ spec kind field parent 0 0 0 (pos 0) ∷ []) }
+    ensures added { IfOk result (λ _. nodes.new.items ≡ nodes.old.items
+        ++ spec kind field parent 0 0 0 (pos 0) ∷ []) }
 {
     nodes.push(blank_node(kind, field, parent))?;
     Ok(())
@@ -53,7 +55,8 @@ fn add_node(
 fn close(nodes: &mut Vec<NodeSpec>, node: u32)
     requires there { node < vec_len nodes.old }
     requires few { vec_len nodes.old ≤ 4096 }
-    ensures { (pre post : List NodeSpec) (x : NodeSpec) → length pre ≡ node → nodes.old.items ≡ pre ++ x ∷ post
+    ensures { (pre post : List NodeSpec) (x : NodeSpec) → length pre ≡ node
+        → nodes.old.items ≡ pre ++ x ∷ post
         → nodes.new.items ≡ pre ++ marked x (length nodes.old.items) ∷ post }
 {
     let end = nodes.len() as u32;
@@ -70,7 +73,8 @@ fn add_range(
 ) -> Result<(), AllocError>
     requires room { vec_len nodes.old + 3 ≤ 4096 }
     requires field { field ≤ 32767 }
-    ensures added { IfOk result (λ _. nodes.new.items ≡ nodes.old.items ++ range_nodes kind field parent (length nodes.old.items)) }
+    ensures added { IfOk result (λ _. nodes.new.items ≡ nodes.old.items
+        ++ range_nodes kind field parent (length nodes.old.items)) }
 {
     let here = nodes.len() as u32;
     add_node(nodes, kind, field, parent)?;
@@ -90,7 +94,8 @@ fn add_type(
 ) -> Result<(), AllocError>
     requires room { CanAdd nodes.old.items (kinds_of (type_of_ref ty)) }
     requires field { field ≤ 32767 }
-    ensures added { IfOk result (λ _. Adds nodes.old.items nodes.new.items (kinds_of (type_of_ref ty.entry)) parent field) }
+    ensures added { IfOk result (λ _. Adds nodes.old.items nodes.new.items (kinds_of (type_of_ref ty.entry))
+        parent field) }
 {
     match ty.kind() {
         TypeKind::Flag => add_node(nodes, Kind::Flag, field, parent),
@@ -119,7 +124,8 @@ fn add_items(
     requires field { field ≤ 32767 }
     requires kind { RowIs kind (type_of_ref ty) }
     requires room { CanAdd nodes.old.items (kinds_of (type_of_ref ty)) }
-    ensures added { IfOk result (λ _. Adds nodes.old.items nodes.new.items (kinds_of (type_of_ref ty.entry)) parent field) }
+    ensures added { IfOk result (λ _. Adds nodes.old.items nodes.new.items (kinds_of (type_of_ref ty.entry))
+        parent field) }
 {
     let here = nodes.len() as u32;
     add_range(nodes, kind, field, parent)?;
@@ -139,7 +145,8 @@ fn add_map(
     requires field { field ≤ 32767 }
     requires kind { kind_of (type_of_ref ty) ≡ types.Map }
     requires room { CanAdd nodes.old.items (kinds_of (type_of_ref ty)) }
-    ensures added { IfOk result (λ _. Adds nodes.old.items nodes.new.items (kinds_of (type_of_ref ty.entry)) parent field) }
+    ensures added { IfOk result (λ _. Adds nodes.old.items nodes.new.items (kinds_of (type_of_ref ty.entry))
+        parent field) }
 {
     let here = nodes.len() as u32;
     let pair = here + 3;
@@ -163,7 +170,8 @@ fn add_struct(
     requires field { field ≤ 32767 }
     requires kind { kind_of (type_of_ref ty) ≡ types.Struct }
     requires room { CanAdd nodes.old.items (kinds_of (type_of_ref ty)) }
-    ensures added { IfOk result (λ _. Adds nodes.old.items nodes.new.items (kinds_of (type_of_ref ty.entry)) parent field) }
+    ensures added { IfOk result (λ _. Adds nodes.old.items nodes.new.items (kinds_of (type_of_ref ty.entry))
+        parent field) }
 {
     let here = nodes.len() as u32;
     add_node(nodes, Kind::Struct, field, parent)?;

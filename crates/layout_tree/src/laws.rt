@@ -7,6 +7,6 @@ use crate::layouts::Layouts;
 
 /// A layout is one of its version within the limits, and so is the one that settling would make of it.
 pub fn layouts_are_described(_layouts: &Layouts)
-    ensures bits { ∥ IsDescribed (layout_of _layouts.now) ∥₁ }
-    ensures noted { ∥ IsDescribed (settled_of _layouts.now) ∥₁ }
+    ensures bits { IsDescribed (layout_of _layouts.now) }
+    ensures noted { IsDescribed (settled_of _layouts.now) }
 {}

@@ -10,8 +10,10 @@ use crate::mark::mark_part;
 use crate::node::{FormVersion, Kind, NodeSpec};
 use crate::settle::settle_part;
 
-/// A layout, as its nodes in preorder, with the width that is noted for each leaf. All sums and offsets agree with the bits.
-// A node with nodes below it keeps the number after them in the place of a noted width, which for it is always its bits.
+/// A layout, as its nodes in preorder, with the width that is noted for each leaf. All sums and offsets agree
+/// with the bits.
+// A node with nodes below it keeps the number after them in the place of a noted width, which for it is
+// always its bits.
 #[derive(Drop)]
 pub struct Layouts {
     pub(crate) nodes: Vec<NodeSpec>,
@@ -28,12 +30,15 @@ impl Layouts {
     ghost use Rattle.frozen_model.specs.Layouts.{FromBase, Version2, Described, stride as stride_in};
     ghost use Rattle.frozen_model.specs.Packing.{bytes_for};
     ghost use Rattle.layout_tree.specs.Given.{IsListOf, ListsLayout};
-    ghost use Rattle.layout_tree.specs.Nodes.{IsNode, at, noted_in, layout_of, settled_of, IsSettled, IsNumber, listed};
+    ghost use Rattle.layout_tree.specs.Nodes.{IsNode, at, noted_in, layout_of, settled_of, IsSettled};
+    ghost use Rattle.layout_tree.specs.Nodes.{IsNumber, listed};
     ghost use Rattle.layout_tree.specs.Noting.{LeafAt, noted_at, wide_at};
     ghost use Rattle.layout_tree.specs.Basing.{BaseAt, based_at, whole_at};
-    ghost use Rattle.layout_tree.specs.Reading.{plain, kind_at, IsLeaf, IsRange, IsOptional, distance_width, count_width, isset_width, item_stride, IsStruct, child_of};
+    ghost use Rattle.layout_tree.specs.Reading.{plain, kind_at, IsLeaf, IsRange, IsOptional, distance_width};
+    ghost use Rattle.layout_tree.specs.Reading.{count_width, isset_width, item_stride, IsStruct, child_of};
 
-    /// The layout of this version, 1 or 2, that the nodes are the list of, each leaf's width noted as it is. It takes no memory.
+    /// The layout of this version, 1 or 2, that the nodes are the list of, each leaf's width noted as it is.
+    /// It takes no memory.
     pub fn from_nodes(mut nodes: Vec<NodeSpec>, version: i32, relaxed: bool) -> Layouts
         requires { ListsLayout nodes.items version relaxed }
         ensures layout { (d : Described) → IsListOf d nodes.items version relaxed → layout_of result ≡ d }
@@ -123,7 +128,8 @@ impl Layouts {
         spec
     }
 
-    /// The number after the last node of a node's subtree. A distance, a count and an isset have nothing below them.
+    /// The number after the last node of a node's subtree. A distance, a count and an isset have nothing
+    /// below them.
     #[inline]
     pub fn past(&self, node: u32) -> u32
         requires { IsNumber self.now node }
@@ -238,7 +244,8 @@ impl Layouts {
         }
     }
 
-    /// Notes a width for a leaf, a distance, a count or an isset, at most its greatest, and changes nothing else.
+    /// Notes a width for a leaf, a distance, a count or an isset, at most its greatest, and changes nothing
+    /// else.
     pub fn widen(&mut self, node: u32, width: u32)
         requires { LeafAt (noted_in self.old) node width }
         ensures noted { noted_in self.new ≡ noted_at (noted_in self.old) node width }

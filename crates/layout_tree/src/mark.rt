@@ -1,7 +1,8 @@
 //! The numbers after the nodes below each node of a list that is given.
 
 ghost use Rattle.std.specs.Prelude.{◌≡◌};
-ghost use Rattle.layout_tree.specs.Marking.{is_leaf_kind, Unmarked, Marked, UnmarkedBelow, BelowMarked, UnmarkedFields, FieldsMarked};
+ghost use Rattle.layout_tree.specs.Marking.{is_leaf_kind, Unmarked, Marked, UnmarkedBelow, BelowMarked};
+ghost use Rattle.layout_tree.specs.Marking.{UnmarkedFields, FieldsMarked};
 
 use crate::node::{Kind, NodeSpec};
 
@@ -15,8 +16,8 @@ fn is_leaf(kind: Kind) -> bool
     }
 }
 
-// Puts the number after the nodes below it in the place of the noted width of each inner node of a subtree; gives the number
-// after the subtree. It calls itself no deeper than the levels of the layout.
+// Puts the number after the nodes below it in the place of the noted width of each inner node of a subtree;
+// gives the number after the subtree. It calls itself no deeper than the levels of the layout.
 #[cycle(mark)]
 pub(crate) fn mark_part(nodes: &mut [NodeSpec], i: usize) -> usize
     requires { Unmarked nodes.old i }

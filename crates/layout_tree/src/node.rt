@@ -33,8 +33,8 @@ pub(crate) enum FormVersion {
 #[derive(Clone, Copy)]
 pub struct NodeSpec {
     pub kind: Kind,
-    /// The id of a field. The distance, the count and the item of a range have 1, 2 and 3, the isset and the value of an
-    /// optional 1 and 2, a key and its value in a pair 1 and 2, the root 0.
+    /// The id of a field. The distance, the count and the item of a range have 1, 2 and 3, the isset and the
+    /// value of an optional 1 and 2, a key and its value in a pair 1 and 2, the root 0.
     pub field: i16,
     /// The number of the node that this one is a child of; 0 at the root.
     pub parent: u32,

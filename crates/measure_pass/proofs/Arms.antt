@@ -1,10 +1,15 @@
 -- What each form of a value comes to.
-use Rattle.std.proofs.Common.{◌≡◌, inl, inr, ℕ, zero, suc, ◌+◌, ◌-◌, ◌*◌, ◌^◌, ◌≤◌, ◌<◌, List, [], ◌∷◌, Bool, true, false, length, ℤ, max, arith, refl, ap, sym, ◌∙◌, subst}
+use Rattle.std.proofs.Common.{◌≡◌, inl, inr, ℕ, zero, suc, ◌+◌, ◌-◌, ◌*◌, ◌^◌, ◌≤◌, ◌<◌, List, [], ◌∷◌, Bool}
+use Rattle.std.proofs.Common.{true, false, length, ℤ, max, arith, refl, ap, sym, ◌∙◌, subst}
 use mir.Val.{bool_byte}
 use Rattle.frozen_model.specs.Bits.{digits, need_unsigned}
-use Rattle.frozen_model.specs.Trees.{LeafKind, Flag, Integer, Whole, ByteKind, Holder, Leaf, ByteRange, ItemRange, Optional, Struct, nodes, greatest, Part, itself, in_item, in_optional, in_struct, PartAll, in_first, in_later}
-use Rattle.frozen_model.specs.Values.{Atom, Truth, Number, Value, Values, One, Bytes, Items, Absent, Present, Record, count, Of, one, items, present}
-use Rattle.frozen_model.specs.Layouts.{Version, Coded, Unsigned, Layout, need, number_of, width, stride, Legal}
+use Rattle.frozen_model.specs.Trees.{LeafKind, Flag, Integer, Whole, ByteKind, Holder, Leaf, ByteRange}
+use Rattle.frozen_model.specs.Trees.{ItemRange, Optional, Struct, nodes, greatest, Part, itself, in_item}
+use Rattle.frozen_model.specs.Trees.{in_optional, in_struct, PartAll, in_first, in_later}
+use Rattle.frozen_model.specs.Values.{Atom, Truth, Number, Value, Values, One, Bytes, Items, Absent, Present}
+use Rattle.frozen_model.specs.Values.{Record, count, Of, one, items, present}
+use Rattle.frozen_model.specs.Layouts.{Version, Coded, Unsigned, Layout, need, number_of, width, stride}
+use Rattle.frozen_model.specs.Layouts.{Legal}
 use Rattle.frozen_model.specs.Packing.{extent, extents, bytes_for, distance}
 use Rattle.frozen_model.specs.Holding.{puts, puts_each, no_puts, widened}
 use Rattle.frozen_laws.specs.Everywhere.{RangeFits}
@@ -17,7 +22,8 @@ use Rattle.layout_tree.proofs.Numbers.{item_is}
 use Rattle.layout_tree.proofs.Subs.{part_low, part_low_all, part_high}
 use Rattle.layout_tree.proofs.Noted.{tip_below}
 use Rattle.typed_tree.specs.Parts.{IsPresent}
-use Rattle.measure_pass.specs.Growing.{grown, Hole, Grew, range_puts, Same, Ready, EachReady, RangeGrew, Visited, EachVisited}
+use Rattle.measure_pass.specs.Growing.{grown, Hole, Grew, range_puts, Same, Ready, EachReady, RangeGrew}
+use Rattle.measure_pass.specs.Growing.{Visited, EachVisited}
 use Rattle.measure_pass.proofs.Grown.{with_is, grown_none}
 use Rattle.measure_pass.proofs.Holes.{grew_none, grew_range, grew_optional}
 use Rattle.measure_pass.proofs.Stays.{same_self, same_chain, same_version}
@@ -26,7 +32,8 @@ use Rattle.typed_tree.proofs.Forms.{AreItems}
 -- ---- tips of parts
 
 mutual
-  tip_in : {t s : Noted} {i n : ℕ} → Part t i s n → (j k w : ℕ) → n ≡ i + j → LeafAt s k w → LeafAt t (j + k) w
+  tip_in : {t s : Noted} {i n : ℕ} → Part t i s n → (j k w : ℕ) → n ≡ i + j → LeafAt s k w
+      → LeafAt t (j + k) w
   tip_in {s = s} itself zero k w e h = let z : k ≡ 0 + k = omega arith in subst (λ x. LeafAt s x w) z h
   tip_in itself (suc j) k w e h = absurd (omega arith)
   tip_in (in_item p) zero k w e h = absurd (omega (arith, part_low p))
@@ -45,16 +52,23 @@ mutual
       let z : suc (j + k) ≡ suc j + k = omega arith in
       subst (λ y. LeafAt (Struct ls) y w) z (tip_among p j k w (omega arith) h)
 
-  tip_among : {ts : AllNoted} {s : Noted} {i n : ℕ} → PartAll ts i s n → (j k w : ℕ) → n ≡ i + j → LeafAt s k w → LeafAmong ts (j + k) w
-  tip_among {s = s} (in_first p) j k w e h = inl (omega (arith, part_high p, tip_below s k w h), tip_in p j k w e h)
+  tip_among : {ts : AllNoted} {s : Noted} {i n : ℕ} → PartAll ts i s n → (j k w : ℕ) → n ≡ i + j
+      → LeafAt s k w → LeafAmong ts (j + k) w
+  tip_among {s = s} (in_first p) j k w e h = inl
+      (omega (arith, part_high p, tip_below s k w h), tip_in p j k w e h)
   tip_among (in_later {l = l} {ls = ls} p) j k w e h =
       let z : j - nodes l + k ≡ j + k - nodes l = omega (arith, part_low_all p) in
-      inr (omega (arith, part_low_all p), subst (λ y. LeafAmong ls y w) z (tip_among p (j - nodes l) k w (omega (arith, part_low_all p)) h))
+      inr (
+        omega (arith, part_low_all p),
+        subst (λ y. LeafAmong ls y w) z
+            (tip_among p (j - nodes l) k w (omega (arith, part_low_all p)) h),
+      )
 
 tip_at : (t : Noted) (n k w m : ℕ) → m ≡ n + k → Part t 0 (sub t n) n → LeafAt (sub t n) k w → LeafAt t m w
 tip_at t n k w m e p h = subst (λ x. LeafAt t x w) (sym e) (tip_in p n k w (omega arith) h)
 
-pub leaf_tip : (v : Version) (t : Noted) (n : ℕ) (k : LeafKind) (c : Coded) (w : ℕ) → Part t 0 (sub t n) n → layout_in v (sub t n) ≡ Leaf k c → w ≤ greatest k → LeafAt t n w
+pub leaf_tip : (v : Version) (t : Noted) (n : ℕ) (k : LeafKind) (c : Coded) (w : ℕ) → Part t 0 (sub t n) n
+    → layout_in v (sub t n) ≡ Leaf k c → w ≤ greatest k → LeafAt t n w
 leaf_tip v t n k c w p e h = tip_at t n 0 w n (omega arith) p (go (sub t n) e)
   where
     go : (s : Noted) → layout_in v s ≡ Leaf k c → LeafAt s 0 w
@@ -64,7 +78,8 @@ leaf_tip v t n k c w p e h = tip_at t n 0 w n (omega arith) p (go (sub t n) e)
     go (Optional _ _) e = absurd cc
     go (Struct _) e = absurd cc
 
-pub distance_tip : (v : Version) (t : Noted) (n w : ℕ) → Part t 0 (sub t n) n → IsRange (layout_in v (sub t n)) → w ≤ 32 → LeafAt t (n + 1) w
+pub distance_tip : (v : Version) (t : Noted) (n w : ℕ) → Part t 0 (sub t n) n
+    → IsRange (layout_in v (sub t n)) → w ≤ 32 → LeafAt t (n + 1) w
 distance_tip v t n w p i h = tip_at t n 1 w (n + 1) refl p (go (sub t n) i)
   where
     go : (s : Noted) → IsRange (layout_in v s) → LeafAt s 1 w
@@ -74,7 +89,8 @@ distance_tip v t n w p i h = tip_at t n 1 w (n + 1) refl p (go (sub t n) i)
     go (Optional _ _) i = absurd i
     go (Struct _) i = absurd i
 
-pub count_tip : (v : Version) (t : Noted) (n w : ℕ) → Part t 0 (sub t n) n → IsRange (layout_in v (sub t n)) → w ≤ 32 → LeafAt t (n + 2) w
+pub count_tip : (v : Version) (t : Noted) (n w : ℕ) → Part t 0 (sub t n) n → IsRange (layout_in v (sub t n))
+    → w ≤ 32 → LeafAt t (n + 2) w
 count_tip v t n w p i h = tip_at t n 2 w (n + 2) refl p (go (sub t n) i)
   where
     go : (s : Noted) → IsRange (layout_in v s) → LeafAt s 2 w
@@ -84,7 +100,8 @@ count_tip v t n w p i h = tip_at t n 2 w (n + 2) refl p (go (sub t n) i)
     go (Optional _ _) i = absurd i
     go (Struct _) i = absurd i
 
-pub flag_tip : (v : Version) (t : Noted) (n a : ℕ) (m : Layout) → Part t 0 (sub t n) n → layout_in v (sub t n) ≡ Optional a m → LeafAt t (n + 1) 1
+pub flag_tip : (v : Version) (t : Noted) (n a : ℕ) (m : Layout) → Part t 0 (sub t n) n → layout_in v (sub t n)
+    ≡ Optional a m → LeafAt t (n + 1) 1
 flag_tip v t n a m p e = tip_at t n 1 1 (n + 1) refl p (go (sub t n) e)
   where
     go : (s : Noted) → layout_in v s ≡ Optional a m → LeafAt s 1 1
@@ -96,16 +113,21 @@ flag_tip v t n a m p e = tip_at t n 1 1 (n + 1) refl p (go (sub t n) e)
 
 -- ---- noting in a hole
 
-pub noted_whole : (whole : Noted → Noted) (n : ℕ) → Hole whole n → (old new s : Noted) (k w u m : ℕ) → m ≡ n + k → LeafAt s k u → old ≡ whole s → new ≡ noted_at old m (max (wide_at old m) w)
+pub noted_whole : (whole : Noted → Noted) (n : ℕ) → Hole whole n → (old new s : Noted) (k w u m : ℕ) → m ≡ n
+    + k → LeafAt s k u → old ≡ whole s → new ≡ noted_at old m (max (wide_at old m) w)
     → new ≡ whole (noted_at s k (max (wide_at s k) w))
 noted_whole whole n o old new s k w u m em h eo en =
-    en ∙ ap (λ (t : Noted). noted_at t m (max (wide_at t m) w)) eo ∙ ap (λ i. noted_at (whole s) i (max (wide_at (whole s) i) w)) em
+    en ∙ ap (λ (t : Noted). noted_at t m (max (wide_at t m) w)) eo
+    ∙ ap (λ i. noted_at (whole s) i (max (wide_at (whole s) i) w)) em
     ∙ ap (λ z. noted_at (whole s) (n + k) (max z w)) (o.wide s k u h) ∙ o.note s k (max (wide_at s k) w) u h
 
-leaf_grew : (v : Version) (k : LeafKind) (c : Coded) (x : ℤ) (w : ℕ) (old new : Noted) (n : ℕ) → w ≡ need c x → w ≤ greatest k → new ≡ noted_at old n (max (wide_at old n) w) → Grew v (Leaf k c) (Leaf k (x ∷ [])) old new n
+leaf_grew : (v : Version) (k : LeafKind) (c : Coded) (x : ℤ) (w : ℕ) (old new : Noted) (n : ℕ) → w ≡ need c x
+    → w ≤ greatest k → new ≡ noted_at old n (max (wide_at old n) w)
+    → Grew v (Leaf k c) (Leaf k (x ∷ [])) old new n
 leaf_grew v k c x w old new n ew le en = λ whole o s e eo. go whole o s e eo
   where
-    go : (whole : Noted → Noted) → Hole whole n → (s : Noted) → layout_in v s ≡ Leaf k c → old ≡ whole s → new ≡ whole (grown v s (Leaf k (x ∷ [])))
+    go : (whole : Noted → Noted) → Hole whole n → (s : Noted) → layout_in v s ≡ Leaf k c → old ≡ whole s → new
+        ≡ whole (grown v s (Leaf k (x ∷ [])))
     go whole o (Leaf j d) e eo =
         let ek : j ≡ k = cc in
         let ec : coded v j d.base d.bits ≡ c = cc in
@@ -113,14 +135,20 @@ leaf_grew v k c x w old new n ew le en = λ whole o s e eo. go whole o s e eo
         let en2 : w ≡ need (coded v j d.base d.bits) x = ew ∙ ap (λ q. need q x) (sym ec) in
         let ez : n ≡ n + 0 = omega arith in
         let em : max d.wide w ≡ max d.wide (max (need (coded v j d.base d.bits) x) 0) = omega (arith, en2) in
-        noted_whole whole n o old new (Leaf j d) 0 w w n ez tip eo en ∙ ap (λ z. whole (Leaf j (record { base = d.base; bits = d.bits; wide = z }))) em
+        noted_whole whole n o old new (Leaf j d) 0 w w n ez tip eo en ∙ ap (λ z. whole (Leaf j (record {
+          base = d.base;
+          bits = d.bits;
+          wide = z;
+        }))) em
     go whole o (ByteRange _ _ _) e eo = absurd cc
     go whole o (ItemRange _ _ _ _) e eo = absurd cc
     go whole o (Optional _ _) e eo = absurd cc
     go whole o (Struct _) e eo = absurd cc
 
-pub range_grew : (v : Version) (l : Layout) (x n at w u : ℕ) (old mid new : Noted) (i : ℕ) → IsRange l → x ≡ distance n at → w ≡ need_unsigned x → u ≡ need_unsigned n → w ≤ 32 → u ≤ 32
-    → mid ≡ noted_at old (i + 1) (max (wide_at old (i + 1)) w) → new ≡ noted_at mid (i + 2) (max (wide_at mid (i + 2)) u) → Grew v l (range_puts l n at) old new i
+pub range_grew : (v : Version) (l : Layout) (x n at w u : ℕ) (old mid new : Noted) (i : ℕ) → IsRange l → x
+    ≡ distance n at → w ≡ need_unsigned x → u ≡ need_unsigned n → w ≤ 32 → u ≤ 32
+    → mid ≡ noted_at old (i + 1) (max (wide_at old (i + 1)) w) → new
+    ≡ noted_at mid (i + 2) (max (wide_at mid (i + 2)) u) → Grew v l (range_puts l n at) old new i
 range_grew v l x n at w u old mid new i r ex ew eu lw lu em en = λ whole o s e eo. go l r whole o s e eo
   where
     a : (y : ℕ) → max y w ≡ max y (max (digits (distance n at)) 0)
@@ -129,19 +157,25 @@ range_grew v l x n at w u old mid new i r ex ew eu lw lu em en = λ whole o s e 
     b : (y : ℕ) → max y u ≡ max y (max (digits n) 0)
     b y = omega (arith, eu)
 
-    go : (l : Layout) → IsRange l → (whole : Noted → Noted) → Hole whole i → (s : Noted) → layout_in v s ≡ l → old ≡ whole s → new ≡ whole (grown v s (range_puts l n at))
+    go : (l : Layout) → IsRange l → (whole : Noted → Noted) → Hole whole i → (s : Noted) → layout_in v s ≡ l
+        → old ≡ whole s → new ≡ whole (grown v s (range_puts l n at))
     go (ByteRange t d c) r whole o (ByteRange q f g) e eo =
         let m = noted_whole whole i o old mid (ByteRange q f g) 1 w w (i + 1) refl lw eo em in
         let f2 = noting f (max f.wide w) in
         let z = noted_whole whole i o mid new (ByteRange q f2 g) 2 u u (i + 2) refl lu m en in
-        z ∙ ap (λ y. whole (ByteRange q (noting f y) (noting g (max g.wide u)))) (a f.wide) ∙ ap (λ y. whole (ByteRange q (noting f (max f.wide (max (digits (distance n at)) 0))) (noting g y))) (b g.wide)
+        z ∙ ap (λ y. whole (ByteRange q (noting f y) (noting g (max g.wide u)))) (a f.wide)
+        ∙ ap (λ y. whole (ByteRange q (noting f (max f.wide (max (digits (distance n at)) 0)))
+        (noting g y))) (b g.wide)
     go (ItemRange h d c k) r whole o (ItemRange q f g s) e eo =
         let m = noted_whole whole i o old mid (ItemRange q f g s) 1 w w (i + 1) refl lw eo em in
         let f2 = noting f (max f.wide w) in
         let z = noted_whole whole i o mid new (ItemRange q f2 g s) 2 u u (i + 2) refl lu m en in
         let es : layout_in v s ≡ k = cc in
-        z ∙ ap (λ y. whole (ItemRange q (noting f y) (noting g (max g.wide u)) s)) (a f.wide) ∙ ap (λ y. whole (ItemRange q (noting f (max f.wide (max (digits (distance n at)) 0))) (noting g y) s)) (b g.wide)
-        ∙ ap (λ (y : Noted). whole (ItemRange q (noting f (max f.wide (max (digits (distance n at)) 0))) (noting g (max g.wide (max (digits n) 0))) y)) (sym (grown_none v s k es))
+        z ∙ ap (λ y. whole (ItemRange q (noting f y) (noting g (max g.wide u)) s)) (a f.wide)
+        ∙ ap (λ y. whole (ItemRange q (noting f (max f.wide (max (digits (distance n at)) 0)))
+        (noting g y) s)) (b g.wide)
+        ∙ ap (λ (y : Noted). whole (ItemRange q (noting f (max f.wide (max (digits (distance n at)) 0)))
+        (noting g (max g.wide (max (digits n) 0))) y)) (sym (grown_none v s k es))
     go (ByteRange t d c) r whole o (Leaf _ _) e eo = absurd cc
     go (ByteRange t d c) r whole o (ItemRange _ _ _ _) e eo = absurd cc
     go (ByteRange t d c) r whole o (Optional _ _) e eo = absurd cc
@@ -158,16 +192,21 @@ digits_one : digits 1 ≡ 1
 unfolding digits
 digits_one = refl
 
-flag_grew : (v : Version) (w : ℕ) (m : Layout) (old new : Noted) (n : ℕ) → new ≡ noted_at old (n + 1) (max (wide_at old (n + 1)) 1) → Grew v (Optional w m) (Optional (1 ∷ []) (no_puts m)) old new n
+flag_grew : (v : Version) (w : ℕ) (m : Layout) (old new : Noted) (n : ℕ) → new
+    ≡ noted_at old (n + 1) (max (wide_at old (n + 1)) 1)
+    → Grew v (Optional w m) (Optional (1 ∷ []) (no_puts m)) old new n
 flag_grew v w m old new n en = λ whole o s e eo. go whole o s e eo
   where
-    go : (whole : Noted → Noted) → Hole whole n → (s : Noted) → layout_in v s ≡ Optional w m → old ≡ whole s → new ≡ whole (grown v s (Optional (1 ∷ []) (no_puts m)))
+    go : (whole : Noted → Noted) → Hole whole n → (s : Noted) → layout_in v s ≡ Optional w m → old ≡ whole s
+        → new ≡ whole (grown v s (Optional (1 ∷ []) (no_puts m)))
     go whole o (Optional x s) e eo =
         let es : layout_in v s ≡ m = cc in
         let one : 1 ≤ 1 = omega arith in
         let em : max x.wide 1 ≡ max x.wide (max (digits 1) 0) = omega (arith, digits_one) in
-        noted_whole whole n o old new (Optional x s) 1 1 1 (n + 1) refl one eo en ∙ ap (λ z. whole (Optional (noting x z) s)) em
-        ∙ ap (λ (z : Noted). whole (Optional (noting x (max x.wide (max (digits 1) 0))) z)) (sym (grown_none v s m es))
+        noted_whole whole n o old new (Optional x s) 1 1 1 (n + 1) refl one eo en
+        ∙ ap (λ z. whole (Optional (noting x z) s)) em
+        ∙ ap (λ (z : Noted). whole (Optional (noting x (max x.wide (max (digits 1) 0))) z))
+        (sym (grown_none v s m es))
     go whole o (Leaf _ _) e eo = absurd cc
     go whole o (ByteRange _ _ _) e eo = absurd cc
     go whole o (ItemRange _ _ _ _) e eo = absurd cc
@@ -182,18 +221,26 @@ pub record AtomAt (l : Layout) (x : Atom) : Type 0 where
   pub fits : need code (number_of x) ≤ greatest kind
 
 pub leaf_at : (l : Layout) (u : Value) (x : Atom) (from : ℕ) → u ≡ One x → Ready l u from → AtomAt l x
-leaf_at l u x from e r = go l (subst (Of l) e r.form) (subst (λ y. Legal (widened l (puts l y from))) e r.legal)
+leaf_at l u x from e r = go l (subst (Of l) e r.form)
+    (subst (λ y. Legal (widened l (puts l y from))) e r.legal)
   where
     go : (l : Layout) → Of l (One x) → Legal (widened l (puts l (One x) from)) → AtomAt l x
-    go (Leaf k c) o h = record { kind = k; code = c; is = refl; fits = omega (arith, h, with_is c (max (width c) (max (need c (number_of x)) 0))) }
+    go (Leaf k c) o h = record {
+      kind = k;
+      code = c;
+      is = refl;
+      fits = omega (arith, h, with_is c (max (width c) (max (need c (number_of x)) 0)));
+    }
     go (ByteRange t d c) o h = elim o [ ]
     go (ItemRange g d c l) o h = elim o [ ]
     go (Optional w l) o h = elim o [ ]
     go (Struct ls) o h = elim o [ ]
 
 -- what the code of a flag is
-pub flag_needs : (v : Version) (s : Noted) (k : LeafKind) (c : Coded) (b : Bool) → layout_in v s ≡ Leaf k c → Of (layout_in v s) (One (Truth b)) → need_unsigned (bool_byte b) ≡ need c (number_of (Truth b))
-flag_needs v (Leaf Flag d) k c b e o = let ec : Unsigned d.bits ≡ c = cc in same b ∙ ap (λ q. need q (number_of (Truth b))) ec
+pub flag_needs : (v : Version) (s : Noted) (k : LeafKind) (c : Coded) (b : Bool) → layout_in v s ≡ Leaf k c
+    → Of (layout_in v s) (One (Truth b)) → need_unsigned (bool_byte b) ≡ need c (number_of (Truth b))
+flag_needs v (Leaf Flag d) k c b e o = let ec : Unsigned d.bits ≡ c = cc in same b
+    ∙ ap (λ q. need q (number_of (Truth b))) ec
   where
     same : (b : Bool) → need_unsigned (bool_byte b) ≡ need (Unsigned d.bits) (number_of (Truth b))
     same true = refl
@@ -210,30 +257,51 @@ pub record IntegerAt (l : Layout) (z : ℤ) : Type 0 where
   pub is : l ≡ Leaf (Integer kind) code
   pub fits : need code z ≤ greatest (Integer kind)
 
-pub integer_at : (l : Layout) (u : Value) (z : ℤ) (from : ℕ) → u ≡ One (Number z) → Ready l u from → IntegerAt l z
-integer_at l u z from e r = go l (subst (Of l) e r.form) (subst (λ y. Legal (widened l (puts l y from))) e r.legal)
+pub integer_at : (l : Layout) (u : Value) (z : ℤ) (from : ℕ) → u ≡ One (Number z) → Ready l u from
+    → IntegerAt l z
+integer_at l u z from e r = go l (subst (Of l) e r.form)
+    (subst (λ y. Legal (widened l (puts l y from))) e r.legal)
   where
-    go : (l : Layout) → Of l (One (Number z)) → Legal (widened l (puts l (One (Number z)) from)) → IntegerAt l z
-    go (Leaf (Integer k) c) o h = record { kind = k; code = c; is = refl; fits = omega (arith, h, with_is c (max (width c) (max (need c z) 0))) }
+    go : (l : Layout) → Of l (One (Number z)) → Legal (widened l (puts l (One (Number z)) from))
+        → IntegerAt l z
+    go (Leaf (Integer k) c) o h = record {
+      kind = k;
+      code = c;
+      is = refl;
+      fits = omega (arith, h, with_is c (max (width c) (max (need c z) 0)));
+    }
     go (Leaf Flag c) (one o) h = absurd o
     go (ByteRange t d c) o h = elim o [ ]
     go (ItemRange g d c l) o h = elim o [ ]
     go (Optional w l) o h = elim o [ ]
     go (Struct ls) o h = elim o [ ]
 
-pub visited_leaf : (l : Layout) (u : Value) (k : LeafKind) (c : Coded) (x : Atom) (w : ℕ) (old new : Layouts) (n from : ℕ) → l ≡ Leaf k c → u ≡ One x → w ≡ need c (number_of x) → w ≤ greatest k
-    → noted_in new ≡ noted_at (noted_in old) n (max (wide_at (noted_in old) n) w) → Same old new → Visited l u old new n from from
+pub visited_leaf : (l : Layout) (u : Value) (k : LeafKind) (c : Coded) (x : Atom) (w : ℕ) (old new : Layouts)
+    (n from : ℕ) → l ≡ Leaf k c → u ≡ One x → w ≡ need c (number_of x) → w ≤ greatest k
+    → noted_in new ≡ noted_at (noted_in old) n (max (wide_at (noted_in old) n) w) → Same old new
+    → Visited l u old new n from from
 visited_leaf l u k c x w old new n from el eu ew le en s =
-    subst (λ (y : Layout). Visited y u old new n from from) (sym el) (subst (λ (y : Value). Visited (Leaf k c) y old new n from from) (sym eu)
-    (record { same = s; grew = leaf_grew (version_of old.version) k c (number_of x) w (noted_in old) (noted_in new) n ew le en; ends = omega arith }))
+    subst (λ (y : Layout). Visited y u old new n from from) (sym el)
+    (subst (λ (y : Value). Visited (Leaf k c) y old new n from from) (sym eu)
+    (record {
+      same = s;
+      grew = leaf_grew (version_of old.version) k c (number_of x) w (noted_in old) (noted_in new) n ew le en;
+      ends = omega arith;
+    }))
 
 -- ---- optionals
 
-pub visited_absent : (l : Layout) (u : Value) (old : Layouts) (n from : ℕ) → u ≡ Absent → Of l u → Visited l u old old n from from
-visited_absent l u old n from e o = subst (λ (y : Value). Visited l y old old n from from) (sym e) (go l (subst (Of l) e o))
+pub visited_absent : (l : Layout) (u : Value) (old : Layouts) (n from : ℕ) → u ≡ Absent → Of l u
+    → Visited l u old old n from from
+visited_absent l u old n from e o = subst (λ (y : Value). Visited l y old old n from from) (sym e)
+    (go l (subst (Of l) e o))
   where
     go : (l : Layout) → Of l Absent → Visited l Absent old old n from from
-    go (Optional w l) o = record { same = same_self old; grew = grew_none (version_of old.version) (Optional w l) (noted_in old) n; ends = omega arith }
+    go (Optional w l) o = record {
+      same = same_self old;
+      grew = grew_none (version_of old.version) (Optional w l) (noted_in old) n;
+      ends = omega arith;
+    }
     go (Leaf k c) o = elim o [ ]
     go (ByteRange t d c) o = elim o [ ]
     go (ItemRange g d c l) o = elim o [ ]
@@ -248,8 +316,15 @@ pub record PresentAt (l : Layout) (x : Value) (from : ℕ) : Type 0 where
 pub present_at : (l : Layout) (u x : Value) (from : ℕ) → u ≡ Present x → Ready l u from → PresentAt l x from
 present_at l u x from e r = go l (subst (λ y. Ready l y from) e r)
   where
-    inside : (w : ℕ) (m : Layout) → Of (Optional w m) (Present x) → Legal (widened (Optional w m) (puts (Optional w m) (Present x) from)) → from + extent m x < 2 ^ 32 → PresentAt (Optional w m) x from
-    inside w m (present o) h s = record { w = w; inner = m; is = refl; ready = record { form = o; legal = h.1; small = s } }
+    inside : (w : ℕ) (m : Layout) → Of (Optional w m) (Present x)
+        → Legal (widened (Optional w m) (puts (Optional w m) (Present x) from)) → from + extent m x < 2 ^ 32
+        → PresentAt (Optional w m) x from
+    inside w m (present o) h s = record {
+      w = w;
+      inner = m;
+      is = refl;
+      ready = record { form = o; legal = h.1; small = s };
+    }
 
     go : (l : Layout) → Ready l (Present x) from → PresentAt l x from
     go (Optional w m) r = inside w m r.form r.legal r.small
@@ -258,16 +333,20 @@ present_at l u x from e r = go l (subst (λ y. Ready l y from) e r)
     go (ItemRange g d c l) r = elim r.form [ ]
     go (Struct ls) r = elim r.form [ ]
 
-pub visited_present : (l : Layout) (u x : Value) (w : ℕ) (m : Layout) (old mid new : Layouts) (n from next : ℕ) → l ≡ Optional w m → u ≡ Present x
-    → noted_in mid ≡ noted_at (noted_in old) (n + 1) (max (wide_at (noted_in old) (n + 1)) 1) → Same old mid → Visited m x mid new (n + 2) from next → Visited l u old new n from next
+pub visited_present : (l : Layout) (u x : Value) (w : ℕ) (m : Layout) (old mid new : Layouts)
+    (n from next : ℕ) → l ≡ Optional w m → u ≡ Present x
+    → noted_in mid ≡ noted_at (noted_in old) (n + 1) (max (wide_at (noted_in old) (n + 1)) 1) → Same old mid
+    → Visited m x mid new (n + 2) from next → Visited l u old new n from next
 visited_present l u x w m old mid new n from next el eu en s r =
     let ev : version_of mid.version ≡ version_of old.version = same_version s in
     let second = subst (λ v. Grew v m (puts m x from) (noted_in mid) (noted_in new) (n + 2)) ev r.grew in
     let first = flag_grew (version_of old.version) w m (noted_in old) (noted_in mid) n en in
-    subst (λ (y : Layout). Visited y u old new n from next) (sym el) (subst (λ (y : Value). Visited (Optional w m) y old new n from next) (sym eu)
+    subst (λ (y : Layout). Visited y u old new n from next) (sym el)
+    (subst (λ (y : Value). Visited (Optional w m) y old new n from next) (sym eu)
     (record {
       same = same_chain s r.same;
-      grew = grew_optional (version_of old.version) w m (1 ∷ []) (puts m x from) (noted_in old) (noted_in mid) (noted_in new) n first second;
+      grew = grew_optional (version_of old.version) w m (1 ∷ []) (puts m x from) (noted_in old) (noted_in mid)
+          (noted_in new) n first second;
       ends = r.ends;
     }))
 
@@ -281,11 +360,19 @@ pub record BytesAt (l : Layout) (bs : List ℕ) (from : ℕ) : Type 0 where
   pub item_range : RangeFits 32 32 (length bs) from
   pub small : from + length bs < 2 ^ 32
 
-pub bytes_at : (l : Layout) (u : Value) (bs : List ℕ) (from : ℕ) → u ≡ Bytes bs → Ready l u from → BytesAt l bs from
+pub bytes_at : (l : Layout) (u : Value) (bs : List ℕ) (from : ℕ) → u ≡ Bytes bs → Ready l u from
+    → BytesAt l bs from
 bytes_at l u bs from e r = go l (subst (λ y. Ready l y from) e r)
   where
     go : (l : Layout) → Ready l (Bytes bs) from → BytesAt l bs from
-    go (ByteRange t d c) r = record { t = t; d = d; c = c; is = refl; item_range = (omega (arith, r.legal.0), omega (arith, r.legal.1)); small = r.small }
+    go (ByteRange t d c) r = record {
+      t = t;
+      d = d;
+      c = c;
+      is = refl;
+      item_range = (omega (arith, r.legal.0), omega (arith, r.legal.1));
+      small = r.small;
+    }
     go (Leaf k c) r = elim r.form [ ]
     go (ItemRange g d c l) r = elim r.form [ ]
     go (Optional w l) r = elim r.form [ ]
@@ -294,11 +381,13 @@ bytes_at l u bs from e r = go l (subst (λ y. Ready l y from) e r)
 pub bytes_range : (l : Layout) (bs : List ℕ) (from : ℕ) → BytesAt l bs from → IsRange l
 bytes_range l bs from b = subst (λ (y : Layout). IsRange y) (sym b.is) tt
 
-pub visited_bytes : (l : Layout) (u : Value) (bs : List ℕ) (old new : Layouts) (n from k : ℕ) → u ≡ Bytes bs → BytesAt l bs from → k ≡ length bs → RangeGrew l k from old new n → Visited l u old new n from (from + k)
+pub visited_bytes : (l : Layout) (u : Value) (bs : List ℕ) (old new : Layouts) (n from k : ℕ) → u ≡ Bytes bs
+    → BytesAt l bs from → k ≡ length bs → RangeGrew l k from old new n → Visited l u old new n from (from + k)
 visited_bytes l u bs old new n from k e b ek g =
     let g2 = subst (λ z. RangeGrew l z from old new n) ek g in
     let g3 = subst (λ (y : Layout). RangeGrew y (length bs) from old new n) b.is g2 in
-    subst (λ (y : Layout). Visited y u old new n from (from + k)) (sym b.is) (subst (λ (y : Value). Visited (ByteRange b.t b.d b.c) y old new n from (from + k)) (sym e)
+    subst (λ (y : Layout). Visited y u old new n from (from + k)) (sym b.is)
+    (subst (λ (y : Value). Visited (ByteRange b.t b.d b.c) y old new n from (from + k)) (sym e)
     (record { same = g.same; grew = g3.grew; ends = ap (λ z. from + z) ek }))
 
 -- ---- lists, sets and maps
@@ -314,11 +403,14 @@ pub record ItemsAt (l : Layout) (vs : Values) (from : ℕ) : Type 0 where
   pub ready : EachReady item vs (bytes_for (count vs * stride item))
   pub small : from + (bytes_for (count vs * stride item) + extents item vs) < 2 ^ 32
 
-pub items_at : (l : Layout) (u : Value) (vs : Values) (from : ℕ) → AreItems u vs → Ready l u from → ItemsAt l vs from
+pub items_at : (l : Layout) (u : Value) (vs : Values) (from : ℕ) → AreItems u vs → Ready l u from
+    → ItemsAt l vs from
 items_at l u vs from e r = go l e.holder (subst (λ y. Ready l y from) e.is r)
   where
-    inside : (g f : Holder) (d c : ℕ) (m : Layout) → Of (ItemRange g d c m) (Items f vs) → Legal (widened (ItemRange g d c m) (puts (ItemRange g d c m) (Items f vs) from))
-        → from + (bytes_for (count vs * stride m) + extents m vs) < 2 ^ 32 → ItemsAt (ItemRange g d c m) vs from
+    inside : (g f : Holder) (d c : ℕ) (m : Layout) → Of (ItemRange g d c m) (Items f vs)
+        → Legal (widened (ItemRange g d c m) (puts (ItemRange g d c m) (Items f vs) from))
+        → from + (bytes_for (count vs * stride m) + extents m vs) < 2 ^ 32
+        → ItemsAt (ItemRange g d c m) vs from
     inside g f d c m (items n ri o) h s = record {
       h = g;
       d = d;
@@ -339,15 +431,23 @@ items_at l u vs from e r = go l e.holder (subst (λ y. Ready l y from) e.is r)
     go (Struct ls) f r = elim r.form [ ]
 
 pub items_range : (l : Layout) (vs : Values) (from : ℕ) → ItemsAt l vs from → IsRange l × IsHolder l
-items_range l vs from b = (subst (λ (y : Layout). IsRange y) (sym b.is) tt, subst (λ (y : Layout). IsHolder y) (sym b.is) tt)
+items_range l vs from b = (
+  subst (λ (y : Layout). IsRange y) (sym b.is) tt,
+  subst (λ (y : Layout). IsHolder y)
+      (sym b.is) tt,
+)
 
-pub items_ready : (l : Layout) (vs : Values) (from block : ℕ) → ItemsAt l vs from → block ≡ bytes_for (count vs * stride (item_of l)) → EachReady (item_of l) vs block
+pub items_ready : (l : Layout) (vs : Values) (from block : ℕ) → ItemsAt l vs from → block
+    ≡ bytes_for (count vs * stride (item_of l)) → EachReady (item_of l) vs block
 items_ready l vs from block b e =
     let i : item_of l ≡ b.item = ap item_of b.is in
-    subst (λ z. EachReady (item_of l) vs z) (sym e) (subst (λ (y : Layout). EachReady y vs (bytes_for (count vs * stride y))) (sym i) b.ready)
+    subst (λ z. EachReady (item_of l) vs z) (sym e)
+    (subst (λ (y : Layout). EachReady y vs (bytes_for (count vs * stride y))) (sym i) b.ready)
 
-pub visited_items : (l : Layout) (u : Value) (vs : Values) (old mid new : Layouts) (n from k block next : ℕ) → AreItems u vs → ItemsAt l vs from → k ≡ count vs → block ≡ bytes_for (count vs * stride (item_of l))
-    → RangeGrew l k from old mid n → EachVisited (item_of l) vs mid new (n + 3) block next → Visited l u old new n from (from + next)
+pub visited_items : (l : Layout) (u : Value) (vs : Values) (old mid new : Layouts) (n from k block next : ℕ)
+    → AreItems u vs → ItemsAt l vs from → k ≡ count vs → block ≡ bytes_for (count vs * stride (item_of l))
+    → RangeGrew l k from old mid n → EachVisited (item_of l) vs mid new (n + 3) block next
+    → Visited l u old new n from (from + next)
 visited_items l u vs old mid new n from k block next e b ek eb g r =
     let i : item_of l ≡ b.item = ap item_of b.is in
     let full = bytes_for (count vs * stride b.item) in
@@ -357,18 +457,26 @@ visited_items l u vs old mid new n from k block next e b ek eb g r =
     let r2 = subst (λ (y : Layout). EachVisited y vs mid new (n + 3) block next) i r in
     let r3 = subst (λ z. EachVisited b.item vs mid new (n + 3) z next) eb2 r2 in
     let ev : version_of mid.version ≡ version_of old.version = same_version g.same in
-    let second = subst (λ v. Grew v b.item (puts_each b.item vs full) (noted_in mid) (noted_in new) (n + 3)) ev r3.grew in
-    subst (λ (y : Layout). Visited y u old new n from (from + next)) (sym b.is) (subst (λ (y : Value). Visited (ItemRange b.h b.d b.c b.item) y old new n from (from + next)) (sym e.is)
+    let second = subst (λ v. Grew v b.item (puts_each b.item vs full) (noted_in mid) (noted_in new) (n + 3))
+    ev r3.grew in
+    subst (λ (y : Layout). Visited y u old new n from (from + next)) (sym b.is)
+    (subst (λ (y : Value). Visited (ItemRange b.h b.d b.c b.item) y old new n from (from + next))
+    (sym e.is)
     (record {
       same = same_chain g.same r.same;
-      grew = grew_range (version_of old.version) b.h b.d b.c b.item (distance (count vs) from ∷ []) (count vs ∷ []) (puts_each b.item vs full) (noted_in old) (noted_in mid) (noted_in new) n g3.grew second;
+      grew = grew_range (version_of old.version) b.h b.d b.c b.item (distance (count vs) from ∷ [])
+          (count vs ∷ []) (puts_each b.item vs full) (noted_in old) (noted_in mid) (noted_in new) n g3.grew
+          second;
       ends = ap (λ z. from + z) r3.ends;
     }))
 
-pub items_next : (l : Layout) (vs : Values) (from block next : ℕ) (mid new : Layouts) (n : ℕ) → ItemsAt l vs from → block ≡ bytes_for (count vs * stride (item_of l)) → EachVisited (item_of l) vs mid new n block next → from + next < 2 ^ 32
-items_next l vs from block next mid new n b eb r =
+pub items_end_at : (l : Layout) (vs : Values) (from block next : ℕ) (mid new : Layouts) (n : ℕ)
+    → ItemsAt l vs from → block ≡ bytes_for (count vs * stride (item_of l))
+    → EachVisited (item_of l) vs mid new n block next → from + next < 2 ^ 32
+items_end_at l vs from block next mid new n b eb r =
     let i : item_of l ≡ b.item = ap item_of b.is in
-    let eb2 : block ≡ bytes_for (count vs * stride b.item) = eb ∙ ap (λ (y : Layout). bytes_for (count vs * stride y)) i in
+    let eb2 : block ≡ bytes_for (count vs * stride b.item) = eb
+    ∙ ap (λ (y : Layout). bytes_for (count vs * stride y)) i in
     omega (arith, b.small, r.ends, eb2, ap (λ (y : Layout). extents y vs) i)
 
 pub distance_none : (n at x : ℕ) → n ≡ 0 → x ≡ 0 → x ≡ distance n at
@@ -379,14 +487,18 @@ pub distance_some : (n at x : ℕ) → (n ≡ 0 → ⊥) → x ≡ at → x ≡ 
 distance_some zero at x e h = absurd (e refl)
 distance_some (suc n) at x e h = h
 
-pub flag_here : (l : Layouts) (n : ℕ) (u : Value) (from : ℕ) → Part (noted_in l) 0 (sub (noted_in l) n) n → IsPresent u → Ready (layout_in (version_of l.version) (sub (noted_in l) n)) u from → LeafAt (noted_in l) (n + 1) 1
+pub flag_here : (l : Layouts) (n : ℕ) (u : Value) (from : ℕ) → Part (noted_in l) 0 (sub (noted_in l) n) n
+    → IsPresent u → Ready (layout_in (version_of l.version) (sub (noted_in l) n)) u from
+    → LeafAt (noted_in l) (n + 1) 1
 flag_here l n u from node h r = go u h r
   where
     v : Version
     v = version_of l.version
 
-    go : (u : Value) → IsPresent u → Ready (layout_in v (sub (noted_in l) n)) u from → LeafAt (noted_in l) (n + 1) 1
-    go (Present x) h r = let p = present_at (layout_in v (sub (noted_in l) n)) (Present x) x from refl r in flag_tip v (noted_in l) n p.w p.inner node p.is
+    go : (u : Value) → IsPresent u → Ready (layout_in v (sub (noted_in l) n)) u from
+        → LeafAt (noted_in l) (n + 1) 1
+    go (Present x) h r = let p = present_at (layout_in v (sub (noted_in l) n)) (Present x) x from refl r in
+        flag_tip v (noted_in l) n p.w p.inner node p.is
     go (One x) h r = absurd h
     go (Bytes x) h r = absurd h
     go (Items g x) h r = absurd h
@@ -394,7 +506,10 @@ flag_here l n u from node h r = go u h r
     go (Record ids x) h r = absurd h
 
 -- the block of a list, set or map
-pub block_is : (x a : Layout) (vs : Values) (n len : ℕ) → x ≡ a → IsHolder a → len ≡ bytes_for (n * item_stride x) → n ≡ count vs
+pub block_is : (x a : Layout) (vs : Values) (n len : ℕ) → x ≡ a → IsHolder a → len
+    ≡ bytes_for (n * item_stride x) → n ≡ count vs
     → len ≡ bytes_for (count vs * stride (item_of a))
 block_is x a vs n len e h el en =
-    el ∙ ap (λ z. bytes_for (z * item_stride x)) en ∙ ap (λ (y : Layout). bytes_for (count vs * item_stride y)) e ∙ ap (λ z. bytes_for (count vs * z)) (sym (item_is a h))
+    el ∙ ap (λ z. bytes_for (z * item_stride x)) en
+    ∙ ap (λ (y : Layout). bytes_for (count vs * item_stride y)) e
+    ∙ ap (λ z. bytes_for (count vs * z)) (sym (item_is a h))

@@ -1,13 +1,17 @@
 -- What is gathered of a value does not turn on widths.
-use Rattle.std.proofs.Common.{◌≡◌, ℕ, zero, suc, ◌+◌, ◌*◌, List, [], ◌∷◌, ◌++◌, length, map, refl, ap, sym, ◌∙◌}
-use Rattle.frozen_model.specs.Trees.{LeafKind, nodes, nodes_all, Alike, AllLeafwise, leaf, byte_range, item_range, optional, struct, no_field, field}
-use Rattle.frozen_model.specs.Values.{Value, Values, One, Bytes, Items, Absent, Present, Record, NoValue, And, count}
+use Rattle.std.proofs.Common.{◌≡◌, ℕ, zero, suc, ◌+◌, ◌*◌, List, [], ◌∷◌, ◌++◌, length, map, refl, ap, sym}
+use Rattle.std.proofs.Common.{◌∙◌}
+use Rattle.frozen_model.specs.Trees.{LeafKind, nodes, nodes_all, Alike, AllLeafwise, leaf, byte_range}
+use Rattle.frozen_model.specs.Trees.{item_range, optional, struct, no_field, field}
+use Rattle.frozen_model.specs.Values.{Value, Values, One, Bytes, Items, Absent, Present, Record, NoValue, And}
+use Rattle.frozen_model.specs.Values.{count}
 use Rattle.frozen_model.specs.Layouts.{Layout, Layouts, Coded, stride}
 use Rattle.frozen_model.specs.Packing.{extent, bytes_for}
 use Rattle.measure_pass.specs.Spots.{Spot, spot, with_spot, spots, spots_each, spots_all, unplaced}
 
 abbrev AllAlike : Layouts → Layouts → Type 0
-AllAlike l m = AllLeafwise (λ (k : LeafKind) (c : Coded) (d : Coded). Unit {0}) (λ (b : ℕ) (d : ℕ). Unit {0}) (λ (b : ℕ) (d : ℕ). Unit {0}) l m
+AllAlike l m = AllLeafwise (λ (k : LeafKind) (c : Coded) (d : Coded). Unit {0}) (λ (b : ℕ) (d : ℕ). Unit {0})
+    (λ (b : ℕ) (d : ℕ). Unit {0}) l m
 
 mutual
   nodes_alike : {l m : Layout} → Alike l m → nodes l ≡ nodes m
@@ -29,12 +33,14 @@ pub map_long : (xs : List Spot) → length (map unplaced xs) ≡ length xs
 map_long [] = refl
 map_long (x ∷ xs) = ap suc (map_long xs)
 
-with_same : (i n p a b : ℕ) (xs ys : List Spot) → map unplaced xs ≡ map unplaced ys → map unplaced (with_spot i n p a xs) ≡ map unplaced (with_spot i n p b ys)
+with_same : (i n p a b : ℕ) (xs ys : List Spot) → map unplaced xs ≡ map unplaced ys
+    → map unplaced (with_spot i n p a xs) ≡ map unplaced (with_spot i n p b ys)
 with_same i zero p a b xs ys e = refl
 with_same i (suc n) p a b xs ys e = ap (λ r. spot i (suc n) p 0 ∷ r) e
 
 mutual
-  pub spots_same : {l m : Layout} → Alike l m → (u : Value) (i p n a b : ℕ) → map unplaced (spots l u i p n a) ≡ map unplaced (spots m u i p n b)
+  pub spots_same : {l m : Layout} → Alike l m → (u : Value) (i p n a b : ℕ) → map unplaced (spots l u i p n a)
+      ≡ map unplaced (spots m u i p n b)
   spots_same (leaf h) u i p n a b = refl
   spots_same (byte_range h g) (Bytes bs) i p n a b = with_same i (length bs) p a b [] [] refl
   spots_same (byte_range h g) (One x) i p n a b = refl
@@ -45,7 +51,8 @@ mutual
   spots_same (item_range {l = l} {m = m} h g x) (Items f vs) i p n a b =
       let a2 = a + bytes_for (count vs * stride l) in
       let b2 = b + bytes_for (count vs * stride m) in
-      with_same i (count vs) p a b (spots_each l vs (i + 3) n (suc n) a2) (spots_each m vs (i + 3) n (suc n) b2) (each_same x vs (i + 3) n (suc n) a2 b2)
+      with_same i (count vs) p a b (spots_each l vs (i + 3) n (suc n) a2)
+      (spots_each m vs (i + 3) n (suc n) b2) (each_same x vs (i + 3) n (suc n) a2 b2)
   spots_same (item_range h g x) (One y) i p n a b = refl
   spots_same (item_range h g x) (Bytes y) i p n a b = refl
   spots_same (item_range h g x) Absent i p n a b = refl
@@ -64,7 +71,8 @@ mutual
   spots_same (struct xs) Absent i p n a b = refl
   spots_same (struct xs) (Present y) i p n a b = refl
 
-  pub each_same : {l m : Layout} → Alike l m → (vs : Values) (i p n a b : ℕ) → map unplaced (spots_each l vs i p n a) ≡ map unplaced (spots_each m vs i p n b)
+  pub each_same : {l m : Layout} → Alike l m → (vs : Values) (i p n a b : ℕ)
+      → map unplaced (spots_each l vs i p n a) ≡ map unplaced (spots_each m vs i p n b)
   each_same x NoValue i p n a b = refl
   each_same {l} {m} x (And u vs) i p n a b =
       let s = spots_same x u i p n a b in
@@ -73,10 +81,14 @@ mutual
       let long : length xs ≡ length ys = sym (map_long xs) ∙ ap (λ r. length r) s ∙ map_long ys in
       let c = a + extent l u in
       let d = b + extent m u in
-      map_join xs (spots_each l vs i p (n + length xs) c) ∙ ap (λ r. r ++ map unplaced (spots_each l vs i p (n + length xs) c)) s
-      ∙ ap (λ k. map unplaced ys ++ map unplaced (spots_each l vs i p (n + k) c)) long ∙ ap (λ r. map unplaced ys ++ r) (each_same x vs i p (n + length ys) c d) ∙ sym (map_join ys (spots_each m vs i p (n + length ys) d))
+      map_join xs (spots_each l vs i p (n + length xs) c)
+      ∙ ap (λ r. r ++ map unplaced (spots_each l vs i p (n + length xs) c)) s
+      ∙ ap (λ k. map unplaced ys ++ map unplaced (spots_each l vs i p (n + k) c)) long
+      ∙ ap (λ r. map unplaced ys ++ r) (each_same x vs i p (n + length ys) c d)
+      ∙ sym (map_join ys (spots_each m vs i p (n + length ys) d))
 
-  pub all_same : {l m : Layouts} → AllAlike l m → (vs : Values) (i p n a b : ℕ) → map unplaced (spots_all l vs i p n a) ≡ map unplaced (spots_all m vs i p n b)
+  pub all_same : {l m : Layouts} → AllAlike l m → (vs : Values) (i p n a b : ℕ)
+      → map unplaced (spots_all l vs i p n a) ≡ map unplaced (spots_all m vs i p n b)
   all_same no_field vs i p n a b = refl
   all_same (field x xs) NoValue i p n a b = refl
   all_same (field {l = l} {m = m} {ls = ls} {ms = ms} x xs) (And u vs) i p n a b =
@@ -86,6 +98,10 @@ mutual
       let long : length ps ≡ length qs = sym (map_long ps) ∙ ap (λ r. length r) s ∙ map_long qs in
       let c = a + extent l u in
       let d = b + extent m u in
-      map_join ps (spots_all ls vs (i + nodes l) p (n + length ps) c) ∙ ap (λ r. r ++ map unplaced (spots_all ls vs (i + nodes l) p (n + length ps) c)) s
-      ∙ ap (λ k. map unplaced qs ++ map unplaced (spots_all ls vs (i + nodes l) p (n + k) c)) long ∙ ap (λ j. map unplaced qs ++ map unplaced (spots_all ls vs (i + j) p (n + length qs) c)) (nodes_alike x)
-      ∙ ap (λ r. map unplaced qs ++ r) (all_same xs vs (i + nodes m) p (n + length qs) c d) ∙ sym (map_join qs (spots_all ms vs (i + nodes m) p (n + length qs) d))
+      map_join ps (spots_all ls vs (i + nodes l) p (n + length ps) c)
+      ∙ ap (λ r. r ++ map unplaced (spots_all ls vs (i + nodes l) p (n + length ps) c)) s
+      ∙ ap (λ k. map unplaced qs ++ map unplaced (spots_all ls vs (i + nodes l) p (n + k) c)) long
+      ∙ ap (λ j. map unplaced qs ++ map unplaced (spots_all ls vs (i + j) p (n + length qs) c))
+      (nodes_alike x)
+      ∙ ap (λ r. map unplaced qs ++ r) (all_same xs vs (i + nodes m) p (n + length qs) c d)
+      ∙ sym (map_join qs (spots_all ms vs (i + nodes m) p (n + length qs) d))

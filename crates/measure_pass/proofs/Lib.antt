@@ -3,7 +3,6 @@ pub mod Holes
 pub mod Stays
 pub mod Arms
 pub mod Left
-pub mod Codes
 pub mod Whole
 pub mod Within
 pub mod Spotting

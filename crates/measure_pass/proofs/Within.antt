@@ -1,10 +1,12 @@
 -- That a pass over a value within the limit of cells makes no leaf too wide.
 use Rattle.std.proofs.Common.{◌≡◌, ◌+◌, ◌^◌, ◌≤◌, arith, refl}
-use Rattle.std.proofs.Math.Bridge.{le_prop}
-use Rattle.std.proofs.Math.Logic.{∥∥₁_elim}
-use Rattle.frozen_model.specs.Trees.{LeafKind, Flag, Integer, Leaf, ByteRange, ItemRange, Optional, Struct, NoField, Field, greatest, leaf, byte_range, item_range, optional, struct, no_field, field}
+use Rattle.frozen_model.specs.Trees.{LeafKind, Flag, Integer, Leaf, ByteRange, ItemRange, Optional, Struct}
+use Rattle.frozen_model.specs.Trees.{NoField, Field, greatest, leaf, byte_range, item_range, optional, struct}
+use Rattle.frozen_model.specs.Trees.{no_field, field}
 use Rattle.frozen_model.specs.Values.{Value, Of, cells, cell_limit}
-use Rattle.frozen_model.specs.Layouts.{Version, Version1, Version2, Layout, Layouts, IsLayout, IsDescribed, Described, OfVersion, Legal, AllLegal, Narrower, AllNarrower, stride, width}
+use Rattle.frozen_model.specs.Layouts.{Version, Version1, Version2, Layout, Layouts, IsLayout, IsDescribed}
+use Rattle.frozen_model.specs.Layouts.{Described, OfVersion, Legal, AllLegal, Narrower, AllNarrower, stride}
+use Rattle.frozen_model.specs.Layouts.{width}
 use Rattle.frozen_model.specs.Packing.{bytes_for, extent}
 use Rattle.frozen_model.specs.Holding.{puts_of, Based, pass}
 use Rattle.frozen_laws.specs.Laws.{widest, widest_all, widest_leaf}
@@ -35,37 +37,25 @@ mutual
   all_below_widest n (Field i l ls) h = field (below_widest n l h.0) (all_below_widest n ls h.1)
 
 -- in version 1 there are no bases
-bases : (n : Version) (l : Layout) (v : Value) → Of l v → OfVersion n l → (n ≡ Version2 → Based l (puts_of l v)) → Based l (puts_of l v)
+bases : (n : Version) (l : Layout) (v : Value) → Of l v → OfVersion n l
+    → (n ≡ Version2 → Based l (puts_of l v)) → Based l (puts_of l v)
 bases Version2 l v o i b = b refl
-bases Version1 l v o i b = leafwise_map (λ k c xs h. first_based k c xs h.1) (λ w ns h. tt) (λ w ns h. tt) (with_version Version1 (puts_beside o (bytes_for (stride l))) i)
+bases Version1 l v o i b = leafwise_map (λ k c xs h. first_based k c xs h.1) (λ w ns h. tt) (λ w ns h. tt)
+    (with_version Version1 (puts_beside o (bytes_for (stride l))) i)
 
 legal_after : (d : Described) (v : Value) → Measurable d v → IsLayout d.version d.tree → Legal (pass d.tree v)
 legal_after d v m x =
     let n = d.version in
     let l = d.tree in
-    legal_under (pass_stays n l (widest n l) v x.coded (bases n l v m.form x.coded m.based) (below_widest n l x.legal) (widest_coded n l) (widest_holds n l v m.form m.few)) (widest_legal n l)
-
-mutual
-  legal_prop : (l : Layout) (a b : Legal l) → a ≡ b
-  legal_prop (Leaf k c) a b = le_prop a b
-  legal_prop (ByteRange t d c) a b = let e = le_prop a.0 b.0 in let f = le_prop a.1 b.1 in λ i. (e i, f i)
-  legal_prop (ItemRange h d c l) a b = let e = le_prop a.0 b.0 in let f = le_prop a.1 b.1 in let g = legal_prop l a.2 b.2 in λ i. (e i, f i, g i)
-  legal_prop (Optional w l) a b = let e = le_prop a.0 b.0 in let f = legal_prop l a.1 b.1 in λ i. (e i, f i)
-  legal_prop (Struct ls) a b = all_legal_prop ls a b
-
-  all_legal_prop : (ls : Layouts) (a b : AllLegal ls) → a ≡ b
-  all_legal_prop NoField a b = refl
-  all_legal_prop (Field i l ls) a b = let e = legal_prop l a.0 b.0 in let f = all_legal_prop ls a.1 b.1 in λ j. (e j, f j)
+    legal_under (pass_stays n l (widest n l) v x.coded (bases n l v m.form x.coded m.based)
+    (below_widest n l x.legal) (widest_coded n l) (widest_holds n l v m.form m.few)) (widest_legal n l)
 
 -- a value within the limit of cells has a small packing
-pub small_whole : (d : Described) (v : Value) → Of d.tree v → cells d.tree v ≤ cell_limit → ∥ IsDescribed d ∥₁ → bytes_for (stride d.tree) + extent d.tree v ≤ 2 ^ 29
-small_whole d v o few h = ∥∥₁_elim h le_prop (λ x. omega (arith, whole_cells d.tree v o x.layout.legal, few))
+pub small_whole : (d : Described) (v : Value) → Of d.tree v → cells d.tree v ≤ cell_limit → IsDescribed d
+    → bytes_for (stride d.tree) + extent d.tree v ≤ 2 ^ 29
+small_whole d v o few h = omega (arith, whole_cells d.tree v o h.layout.legal, few)
 
-pub passable : (d : Described) (v : Value) → Measurable d v → ∥ IsDescribed d ∥₁ → Passable d.tree v
+pub passable : (d : Described) (v : Value) → Measurable d v → IsDescribed d → Passable d.tree v
 passable d v m h =
     let small = small_whole d v m.form m.few h in
-    record {
-      form = m.form;
-      legal = ∥∥₁_elim h (legal_prop (pass d.tree v)) (λ x. legal_after d v m x.layout);
-      small = omega (arith, small);
-    }
+    record { form = m.form; legal = legal_after d v m h.layout; small = omega (arith, small) }

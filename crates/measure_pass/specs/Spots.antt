@@ -1,8 +1,11 @@
 -- The nonempty ranges of a value, in the order of their blocks.
-use Rattle.std.specs.Prelude.{◌≡◌, ℕ, zero, suc, ◌+◌, ◌-◌, ◌*◌, ◌^◌, ◌≤◌, ◌<◌, List, [], ◌∷◌, ◌++◌, length, map, get_or, max, take, drop, Bool, false, ◌↔◌}
+use Rattle.std.specs.Prelude.{◌≡◌, ℕ, zero, suc, ◌+◌, ◌-◌, ◌*◌, ◌^◌, ◌≤◌, ◌<◌, List, [], ◌∷◌, ◌++◌, length}
+use Rattle.std.specs.Prelude.{map, get_or, max, take, drop, Bool, false, ◌↔◌}
 use Rattle.frozen_model.specs.Bits.{digits}
-use Rattle.frozen_model.specs.Trees.{Leaf, ByteRange, ItemRange, Optional, Struct, NoField, Field, nodes, Part, Alike}
-use Rattle.frozen_model.specs.Values.{Value, Values, Bytes, Items, Present, Record, NoValue, And, count, Of, cells, cell_limit}
+use Rattle.frozen_model.specs.Trees.{Leaf, ByteRange, ItemRange, Optional, Struct, NoField, Field, nodes}
+use Rattle.frozen_model.specs.Trees.{Part, Alike}
+use Rattle.frozen_model.specs.Values.{Value, Values, Bytes, Items, Present, Record, NoValue, And, count, Of}
+use Rattle.frozen_model.specs.Values.{cells, cell_limit}
 use Rattle.frozen_model.specs.Layouts.{Version, Layout, Layouts, Described, stride}
 use Rattle.frozen_model.specs.Packing.{extent, bytes_for}
 use Rattle.frozen_model.specs.Holding.{Puts, AllPuts, puts, puts_of, widened, pass}
@@ -14,7 +17,8 @@ use Rattle.measure_pass.specs.declared.ranges.Ranges.{Ranges}
 use Rattle.layout_tree.specs.Noting.{noted_at, wide_at}
 use Rattle.measure_pass.specs.Growing.{Grew, passed}
 
--- a range: its node, its count, the number of the range in whose block it lies, and the byte where its block begins
+-- a range: its node, its count, the number of the range in whose block it lies, and the byte where its block
+-- begins
 abbrev pub Spot : Type 0
 Spot = RangeSpot
 
@@ -30,22 +34,25 @@ abbrev pub with_spot : ℕ → ℕ → ℕ → ℕ → List Spot → List Spot
 with_spot i zero p at rest = []
 with_spot i (suc n) p at rest = spot i (suc n) p at ∷ rest
 
--- the ranges of a value whose node is i, which lies in the block of the p-th range, where n ranges are before it and its first own
--- block begins at byte at
+-- the ranges of a value whose node is i, which lies in the block of the p-th range, where n ranges are before
+-- it and its first own block begins at byte at
 abbrev mutual
   pub spots : Layout → Value → ℕ → ℕ → ℕ → ℕ → List Spot
   spots (ByteRange t d c) (Bytes bs) i p n at = with_spot i (length bs) p at []
-  spots (ItemRange h d c l) (Items g vs) i p n at = with_spot i (count vs) p at (spots_each l vs (i + 3) n (suc n) (at + bytes_for (count vs * stride l)))
+  spots (ItemRange h d c l) (Items g vs) i p n at = with_spot i (count vs) p at
+      (spots_each l vs (i + 3) n (suc n) (at + bytes_for (count vs * stride l)))
   spots (Optional w l) (Present v) i p n at = spots l v (i + 2) p n at
   spots (Struct ls) (Record ids vs) i p n at = spots_all ls vs (i + 1) p n at
   spots _ _ i p n at = []
 
   pub spots_each : Layout → Values → ℕ → ℕ → ℕ → ℕ → List Spot
   spots_each l NoValue i p n at = []
-  spots_each l (And v vs) i p n at = spots l v i p n at ++ spots_each l vs i p (n + length (spots l v i p n at)) (at + extent l v)
+  spots_each l (And v vs) i p n at = spots l v i p n at
+      ++ spots_each l vs i p (n + length (spots l v i p n at)) (at + extent l v)
 
   pub spots_all : Layouts → Values → ℕ → ℕ → ℕ → ℕ → List Spot
-  spots_all (Field id l ls) (And v vs) i p n at = spots l v i p n at ++ spots_all ls vs (i + nodes l) p (n + length (spots l v i p n at)) (at + extent l v)
+  spots_all (Field id l ls) (And v vs) i p n at = spots l v i p n at
+      ++ spots_all ls vs (i + nodes l) p (n + length (spots l v i p n at)) (at + extent l v)
   spots_all _ _ i p n at = []
 
 abbrev pub spots_of : Layout → Value → List Spot
@@ -74,10 +81,13 @@ pub record Ran : Type 0 where
   pub end : ℕ
   pub tree : Noted
 
--- from a byte on, each range gets its start, and its distance from the start of the block that it lies in is noted
+-- from a byte on, each range gets its start, and its distance from the start of the block that it lies in is
+-- noted
 abbrev pub run : Layout → List Spot → ℕ → Noted → List Spot → Ran
 run l done at t [] = record { spots = done; end = at; tree = t }
-run l done at t (s ∷ ss) = run l (done ++ spot s.node s.count s.parent at ∷ []) (at + block_bytes (sub l s.node) s.count) (noting_at t (s.node + 1) (digits (at - start_of done s.parent))) ss
+run l done at t (s ∷ ss) = run l (done ++ spot s.node s.count s.parent at ∷ [])
+    (at + block_bytes (sub l s.node) s.count)
+    (noting_at t (s.node + 1) (digits (at - start_of done s.parent))) ss
 
 -- the distances alone
 abbrev mutual
@@ -96,18 +106,23 @@ abbrev mutual
 abbrev pub DistancesSuffice : Type 0
 DistancesSuffice = (l : Layout) (p : Puts) → Filled l p → widened l p ≡ widened l (distances p)
 
--- What running over the ranges of a part does, which has the layout l at node i of the whole: they get their starts, the next block
--- begins after the part's, and the part grows by its distances.
-pub record Runs (v : Version) (whole l : Layout) (u : Value) (i p n at : ℕ) (done rest : List Spot) (t : Noted) : Type 0 where
+-- What running over the ranges of a part does, which has the layout l at node i of the whole: they get their
+-- starts, the next block begins after the part's, and the part grows by its distances.
+pub record Runs (v : Version) (whole l : Layout) (u : Value) (i p n at : ℕ) (done rest : List Spot)
+    (t : Noted) : Type 0 where
   pub tree : Noted
-  pub is : run whole done at t (map unplaced (spots l u i p n at) ++ rest) ≡ run whole (done ++ spots l u i p n at) (at + extent l u) tree rest
+  pub is : run whole done at t (map unplaced (spots l u i p n at) ++ rest)
+      ≡ run whole (done ++ spots l u i p n at) (at + extent l u) tree rest
   pub grew : Grew v l (distances (puts l u (at - start_of done p))) t tree i
 
 abbrev pub RunIsPass : Type 0
-RunIsPass = (v : Version) (whole l : Layout) (u : Value) (i p n at : ℕ) (done rest : List Spot) (t : Noted) → Of l u → Part whole 0 l i → n ≡ length done → p < length done → start_of done p ≤ at → at + extent l u < 2 ^ 32
+RunIsPass = (v : Version) (whole l : Layout) (u : Value) (i p n at : ℕ) (done rest : List Spot) (t : Noted)
+    → Of l u → Part whole 0 l i → n ≡ length done → p < length done → start_of done p ≤ at → at + extent l u
+    < 2 ^ 32
     → Runs v whole l u i p n at done rest t
 
--- the ranges are those of a value but for their starts, and all its leaves other than distances are wide enough
+-- the ranges are those of a value but for their starts, and all its leaves other than distances are wide
+-- enough
 pub record AreSpots (l : Layout) (ranges : List Spot) (v : Value) : Type 0 where
   pub form : Of l v
   pub first : take 1 ranges ≡ root ∷ []
@@ -120,14 +135,16 @@ pub record SomeSpots (l : Layout) (ranges : List Spot) : Type 0 where
   pub are : AreSpots l ranges value
 
 -- what a pass over ranges leaves: the layout that a pass over the value leaves, and ranges with their starts
-pub record RangePassed (old new : Described) (ranges : List Spot) (v : Value) (widened_any : Bool) : Type 0 where
-  pub layout : new ≡ passed old v
-  pub starts : ranges ≡ spots_of old.tree v
-  pub rested : widened_any ≡ false ↔ pass old.tree v ≡ old.tree
+pub record RangePassed (old new : Described) (ranges : List Spot) (v : Value) (widened_any : Bool) : Type 0
+  where
+    pub layout : new ≡ passed old v
+    pub starts : ranges ≡ spots_of old.tree v
+    pub rested : widened_any ≡ false ↔ pass old.tree v ≡ old.tree
 
 -- what is gathered does not turn on widths or bases
 abbrev pub GatheredAlike : Type 0
-GatheredAlike = (l m : Layout) (v : Value) → Alike l m → map unplaced (spots_of l v) ≡ map unplaced (spots_of m v)
+GatheredAlike = (l m : Layout) (v : Value) → Alike l m → map unplaced (spots_of l v)
+    ≡ map unplaced (spots_of m v)
 
 abbrev pub ran : List Spot → ℕ → Noted → Ran
 ran done at t = record { spots = done; end = at; tree = t }
@@ -135,8 +152,10 @@ ran done at t = record { spots = done; end = at; tree = t }
 -- each range is one of the layout, in a block that began before, and blocks end below 2 ^ 32
 abbrev pub Runnable : Layout → List Spot → ℕ → List Spot → Type 0
 Runnable l done at [] = Unit {0}
-Runnable l done at (s ∷ ss) = Part l 0 (sub l s.node) s.node × IsRange (sub l s.node) × (s.parent < length done) × (start_of done s.parent ≤ at) × (s.count < 2 ^ 31)
-    × (at + block_bytes (sub l s.node) s.count < 2 ^ 32) × Runnable l (done ++ spot s.node s.count s.parent at ∷ []) (at + block_bytes (sub l s.node) s.count) ss
+Runnable l done at (s ∷ ss) = Part l 0 (sub l s.node) s.node × IsRange (sub l s.node)
+    × (s.parent < length done) × (start_of done s.parent ≤ at) × (s.count < 2 ^ 31)
+    × (at + block_bytes (sub l s.node) s.count < 2 ^ 32)
+    × Runnable l (done ++ spot s.node s.count s.parent at ∷ []) (at + block_bytes (sub l s.node) s.count) ss
 
 -- the spots of ranges
 abbrev pub listed : Ranges → List Spot

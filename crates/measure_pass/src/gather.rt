@@ -21,7 +21,8 @@ fn add_range(
     count: u64,
     parent: u64,
 ) -> Result<(), AllocError>
-    ensures { IfOk result (λ _. spots.new.items ≡ spots.old.items ++ map unplaced (with_spot node count parent 0 [])) }
+    ensures { IfOk result (λ _. spots.new.items ≡ spots.old.items
+        ++ map unplaced (with_spot node count parent 0 [])) }
 {
     if count == 0 {
         return Ok(());
@@ -46,8 +47,8 @@ fn is_leaf(layouts: &Layouts, node: u32) -> bool
     }
 }
 
-// Adds the ranges of a part that lies in the block of the range with the number `parent`. It calls itself no deeper than
-// the levels of the layout.
+// Adds the ranges of a part that lies in the block of the range with the number `parent`. It calls itself no
+// deeper than the levels of the layout.
 #[cycle(gather)]
 pub(crate) fn gather_part(
     spots: &mut Vec<RangeSpot>,
@@ -58,7 +59,8 @@ pub(crate) fn gather_part(
 ) -> Result<(), AllocError>
     requires node { IsNode layouts.now node }
     requires form { Of (at layouts.now node) (value_of_ref v) }
-    ensures { IfOk result (λ _. Gathers (at layouts.now node) (value_of_ref v.entry) node parent spots.old.items spots.new.items) }
+    ensures { IfOk result (λ _. Gathers (at layouts.now node) (value_of_ref v.entry) node parent
+        spots.old.items spots.new.items) }
 {
     let kind = v.kind();
     match kind {
@@ -79,7 +81,8 @@ pub(crate) fn gather_part(
     }
 }
 
-// The same of the items of a list or set. Items that are flags or numbers have no ranges, and are passed over.
+// The same of the items of a list or set. Items that are flags or numbers have no ranges, and are passed
+// over.
 #[cycle(gather)]
 fn gather_items(
     spots: &mut Vec<RangeSpot>,
@@ -92,7 +95,8 @@ fn gather_items(
     requires holder { IsHolder (at layouts.now node) }
     requires row { IsRow (value_of_ref v) }
     requires form { OfEach (item_of (at layouts.now node)) (items_of (value_of_ref v)) }
-    ensures { IfOk result (λ _. EachGathers (item_of (at layouts.now node)) (items_of (value_of_ref v.entry)) (node + 3) parent spots.old.items spots.new.items) }
+    ensures { IfOk result (λ _. EachGathers (item_of (at layouts.now node)) (items_of (value_of_ref v.entry))
+        (node + 3) parent spots.old.items spots.new.items) }
 {
     let item = node + 3;
     if is_leaf(layouts, item) {
@@ -118,7 +122,8 @@ fn gather_pairs(
     requires holder { IsHolder (at layouts.now node) }
     requires map { IsMap (value_of_ref v) }
     requires form { OfEach (item_of (at layouts.now node)) (items_of (value_of_ref v)) }
-    ensures { IfOk result (λ _. EachGathers (item_of (at layouts.now node)) (items_of (value_of_ref v.entry)) (node + 3) parent spots.old.items spots.new.items) }
+    ensures { IfOk result (λ _. EachGathers (item_of (at layouts.now node)) (items_of (value_of_ref v.entry))
+        (node + 3) parent spots.old.items spots.new.items) }
 {
     let n = v.len();
     for i in 0..n {
@@ -140,7 +145,9 @@ fn gather_pair(
 ) -> Result<(), AllocError>
     requires node { IsNode layouts.now node }
     requires form { Of (at layouts.now node) (pair (value_of_ref key) (value_of_ref value)) }
-    ensures { IfOk result (λ _. Gathers (at layouts.now node) (pair (value_of_ref key.entry) (value_of_ref value.entry)) node parent spots.old.items spots.new.items) }
+    ensures { IfOk result (λ _. Gathers (at layouts.now node)
+        (pair (value_of_ref key.entry) (value_of_ref value.entry)) node parent spots.old.items
+        spots.new.items) }
 {
     let first = node + 1;
     let second = layouts.past(first);
@@ -161,7 +168,8 @@ fn gather_fields(
     requires node { IsNode layouts.now node }
     requires record { IsRecord (value_of_ref v) }
     requires form { Of (at layouts.now node) (value_of_ref v) }
-    ensures { IfOk result (λ _. Gathers (at layouts.now node) (value_of_ref v.entry) node parent spots.old.items spots.new.items) }
+    ensures { IfOk result (λ _. Gathers (at layouts.now node) (value_of_ref v.entry) node parent
+        spots.old.items spots.new.items) }
 {
     let end = layouts.past(node);
     let mut child = node + 1;

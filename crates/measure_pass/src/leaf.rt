@@ -17,13 +17,15 @@ pub(crate) fn need_of(layouts: &Layouts, node: u32, x: i64) -> u32
     requires { IsNode layouts.now node }
     ensures { (k : Whole) (c : Coded) → at layouts.now node ≡ Leaf (Integer k) c → result ≡ need c x }
 {
-    if layouts.version() == 1 {
-        return need_signed(x);
+    if layouts.version() == 2 {
+        need_unsigned(x.abs_diff(layouts.base(node)))
+    } else {
+        need_signed(x)
     }
-    need_unsigned(x.abs_diff(layouts.base(node)))
 }
 
-/// Notes what a range of `n` items needs whose block is `from` bytes after the start of the block that the range lies in.
+/// Notes what a range of `n` items needs whose block is `from` bytes after the start of the block that the
+/// range lies in.
 pub(crate) fn note_range(layouts: &mut Layouts, node: u32, n: u64, from: u64)
     requires node { IsNode layouts.old node }
     requires range { IsRange (at layouts.old node) }

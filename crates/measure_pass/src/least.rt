@@ -6,7 +6,7 @@ ghost use Rattle.idl_parse.specs.Parsed.{definition_of};
 ghost use Rattle.type_kinds.specs.KindsOf.{kinds_of};
 ghost use Rattle.frozen_model.specs.Trees.{kinds, ranges};
 ghost use Rattle.frozen_model.specs.Values.{Of, cells, cell_limit};
-ghost use Rattle.frozen_model.specs.Layouts.{Version2, IsDescribed};
+ghost use Rattle.frozen_model.specs.Layouts.{Version2};
 ghost use Rattle.frozen_model.specs.Holding.{Least};
 ghost use Rattle.layout_tree.specs.Nodes.{layout_of, IsSettled};
 ghost use Rattle.typed_tree.specs.References.{value_of_ref};
@@ -15,9 +15,8 @@ ghost use Rattle.measure_pass.specs.Measuring.{IsBlank, packed_length};
 use crate::pass::one_pass;
 use crate::ranges::{Ranges, pass_over};
 use fz_base::Steps;
-use idl_parse::{Definition, parts_of};
-use layout_tree::{Layouts, shape};
-use root_kinds::roots_have_kinds;
+use idl_parse::Definition;
+use layout_tree::{Layouts, layouts_are_described, shape};
 use std::alloc::{AllocError, Global};
 use std::sync::ledger::Ledger;
 use typed_tree::TreeRef;
@@ -30,8 +29,8 @@ pub struct Measured {
     pub content_len: u64,
 }
 
-/// The least layout of version 2 of a value of the kinds of a blank layout, and the bytes of the value's packing. The steps
-/// rise by at most 2 and 29 for each text, bytes, list, set and map of the kinds.
+/// The least layout of version 2 of a value of the kinds of a blank layout, and the bytes of the value's
+/// packing. The steps rise by at most 2 and 29 for each text, bytes, list, set and map of the kinds.
 pub fn measure_over<L: Ledger>(
     alloc: Global,
     blank: Layouts,
@@ -42,23 +41,25 @@ pub fn measure_over<L: Ledger>(
     requires settled { IsSettled blank }
     requires form { Of (layout_of blank).tree (value_of_ref v) }
     requires few { cells (layout_of blank).tree (value_of_ref v) ≤ cell_limit }
-    ensures least { let d = layout_of blank in
-        IsDescribed d → IfOk result (λ m. Least (layout_of m.layouts) (value_of_ref v.entry)) }
+    ensures least { IfOk result (λ m. Least (layout_of m.layouts) (value_of_ref v.entry)) }
     ensures version { IfOk result (λ m. (layout_of m.layouts).version ≡ Version2) }
     ensures relaxed { IfOk result (λ m. (layout_of m.layouts).relaxed ≡ true) }
     ensures kinds { let l = (layout_of blank).tree in
         IfOk result (λ m. kinds (layout_of m.layouts).tree ≡ kinds l) }
     ensures settled { IfOk result (λ m. IsSettled m.layouts) }
-    ensures length { IfOk result (λ m. m.content_len ≡ packed_length (layout_of m.layouts).tree (value_of_ref v.entry)) }
+    ensures length { IfOk result (λ m. m.content_len
+        ≡ packed_length (layout_of m.layouts).tree (value_of_ref v.entry)) }
     ensures steps { let l = (layout_of blank).tree in steps.new ≤ steps.old + 2 + 29 * ranges l }
 {
+    layouts_are_described(&blank);
     let mut layouts = blank;
     set_bases(alloc, &mut layouts, v)?;
     one_pass(&mut layouts, v, steps);
     let mut ranges = Ranges::gather(alloc, &layouts, v)?;
     loop {
         let pass = pass_over(&mut layouts, &mut ranges, steps);
-        if !pass.widened {
+        let rests = !pass.widened;
+        if rests {
             return Ok(Measured {
                 layouts,
                 content_len: pass.end,
@@ -67,8 +68,8 @@ pub fn measure_over<L: Ledger>(
     }
 }
 
-/// The least layout of version 2 of a value of a definition's root, and the bytes of the value's packing. The steps rise
-/// by at most 2 and 29 for each text, bytes, list, set and map of the kinds of the root.
+/// The least layout of version 2 of a value of a definition's root, and the bytes of the value's packing. The
+/// steps rise by at most 2 and 29 for each text, bytes, list, set and map of the kinds of the root.
 pub fn measure<L: Ledger>(
     alloc: Global,
     def: &Definition,
@@ -80,13 +81,13 @@ pub fn measure<L: Ledger>(
     ensures least { IfOk result (λ m. Least (layout_of m.layouts) (value_of_ref v.entry)) }
     ensures version { IfOk result (λ m. (layout_of m.layouts).version ≡ Version2) }
     ensures relaxed { IfOk result (λ m. (layout_of m.layouts).relaxed ≡ true) }
-    ensures kinds { IfOk result (λ m. kinds (layout_of m.layouts).tree ≡ kinds_of (root_of (definition_of def.now))) }
+    ensures kinds { IfOk result (λ m. kinds (layout_of m.layouts).tree
+        ≡ kinds_of (root_of (definition_of def.now))) }
     ensures settled { IfOk result (λ m. IsSettled m.layouts) }
-    ensures length { IfOk result (λ m. m.content_len ≡ packed_length (layout_of m.layouts).tree (value_of_ref v.entry)) }
+    ensures length { IfOk result (λ m. m.content_len
+        ≡ packed_length (layout_of m.layouts).tree (value_of_ref v.entry)) }
     ensures steps { steps.new ≤ steps.old + 2 + 29 * ranges (kinds_of (root_of (definition_of def.now))) }
 {
-    roots_have_kinds();
-    let _parts = parts_of(def);
     let blank = shape(alloc, def)?;
     measure_over(alloc, blank, v, steps)
 }

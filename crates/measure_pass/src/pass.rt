@@ -12,8 +12,9 @@ use layout_tree::{Layouts, layouts_are_described};
 use std::sync::ledger::Ledger;
 use typed_tree::TreeRef;
 
-/// Finds every number that packing the value under the layout would put at a leaf, and gives each leaf the greatest of
-/// its width and the needs of its numbers. Tells whether a leaf widened. It is one step, and takes no memory.
+/// Finds every number that packing the value under the layout would put at a leaf, and gives each leaf the
+/// greatest of its width and the needs of its numbers. Tells whether a leaf widened. It is one step, and
+/// takes no memory.
 pub fn one_pass<L: Ledger>(layouts: &mut Layouts, v: TreeRef<'_>, steps: &mut Steps<L>) -> bool
     requires settled { IsSettled layouts.old }
     requires value { Measurable (layout_of layouts.old) (value_of_ref v) }

@@ -7,7 +7,8 @@ ghost use Rattle.frozen_model.specs.Packing.{bytes_for, extent};
 ghost use Rattle.layout_tree.specs.Nodes.{IsNode, IsSettled, at as layout_at, layout_of, noted_in};
 ghost use Rattle.layout_tree.specs.Reading.{IsRange};
 ghost use Rattle.measure_pass.specs.Growing.{Same};
-ghost use Rattle.measure_pass.specs.Spots.{Runnable, run, ran, block_bytes, AreSpots, SomeSpots, RangePassed, listed};
+ghost use Rattle.measure_pass.specs.Spots.{Runnable, run, ran, block_bytes, AreSpots, SomeSpots, RangePassed};
+ghost use Rattle.measure_pass.specs.Spots.{listed};
 
 use crate::gather::gather_part;
 use bit_field::need_unsigned;
@@ -17,8 +18,8 @@ use std::alloc::{AllocError, Global};
 use std::sync::ledger::Ledger;
 use typed_tree::TreeRef;
 
-/// A range that is not empty: its node, its count, the number of the range in whose block it lies, and the byte where its own block
-/// begins.
+/// A range that is not empty: its node, its count, the number of the range in whose block it lies, and the
+/// byte where its own block begins.
 #[derive(Clone, Copy)]
 pub struct RangeSpot {
     pub node: u32,
@@ -27,8 +28,8 @@ pub struct RangeSpot {
     pub start: u64,
 }
 
-/// The ranges of a value that are not empty, in the order of their blocks, behind the block of the value itself, whose
-/// node is 0 and whose count is 1. Their starts are 0 until a pass gives them.
+/// The ranges of a value that are not empty, in the order of their blocks, behind the block of the value
+/// itself, whose node is 0 and whose count is 1. Their starts are 0 until a pass gives them.
 #[derive(Drop)]
 pub struct Ranges {
     pub(crate) spots: Vec<RangeSpot>,
@@ -84,7 +85,8 @@ fn run_ranges(layouts: &mut Layouts, spots: &mut [RangeSpot], first: u64) -> u64
     requires small { first < 2 ^ 32 }
     requires runnable { Runnable (layout_of layouts.old).tree (take 1 spots.old) first (drop 1 spots.old) }
     ensures same { Same layouts.old layouts.new }
-    ensures ran { run (layout_of layouts.old).tree (take 1 spots.old) first (noted_in layouts.old) (drop 1 spots.old) ≡ ran spots.new result (noted_in layouts.new) }
+    ensures ran { run (layout_of layouts.old).tree (take 1 spots.old) first (noted_in layouts.old)
+        (drop 1 spots.old) ≡ ran spots.new result (noted_in layouts.new) }
 {
     let mut at = first;
     let mut k = 1;
@@ -105,7 +107,8 @@ fn run_ranges(layouts: &mut Layouts, spots: &mut [RangeSpot], first: u64) -> u64
     at
 }
 
-/// What a pass over ranges comes to: whether a distance widened, and the bytes of all blocks under the layout at the call.
+/// What a pass over ranges comes to: whether a distance widened, and the bytes of all blocks under the layout
+/// at the call.
 #[derive(Clone, Copy)]
 pub(crate) struct RangePass {
     pub(crate) widened: bool,
@@ -141,9 +144,10 @@ pub(crate) fn pass_over<L: Ledger>(
     RangePass { widened: true, end }
 }
 
-/// One pass over the ranges of a value all of whose leaves other than distances are wide enough: it leaves the layout
-/// that a pass over the value would leave, and tells whether a distance widened. Each range gets as its start the bytes
-/// of the blocks before its own, under the layout at the call. It is one step, and takes no memory.
+/// One pass over the ranges of a value all of whose leaves other than distances are wide enough: it leaves
+/// the layout that a pass over the value would leave, and tells whether a distance widened. Each range gets
+/// as its start the bytes of the blocks before its own, under the layout at the call. It is one step, and
+/// takes no memory.
 pub fn range_pass<L: Ledger>(
     layouts: &mut Layouts,
     ranges: &mut Ranges,

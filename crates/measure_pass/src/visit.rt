@@ -13,8 +13,8 @@ use bit_field::need_unsigned;
 use layout_tree::Layouts;
 use typed_tree::{TreeKind, TreeRef};
 
-/// Notes what a part needs whose first own block is `from` bytes after the start of the block that it lies in, and gives where the
-/// next block begins.
+/// Notes what a part needs whose first own block is `from` bytes after the start of the block that it lies
+/// in, and gives where the next block begins.
 #[cycle(visit)]
 pub(crate) fn visit_part(layouts: &mut Layouts, node: u32, v: TreeRef<'_>, from: u64) -> u64
     requires node { IsNode layouts.old node }
@@ -62,7 +62,8 @@ fn visit_items(layouts: &mut Layouts, node: u32, v: TreeRef<'_>, from: u64) -> u
     requires holder { IsHolder (at layouts.old node) }
     requires row { IsRow (value_of_ref v) }
     requires ready { EachReady (item_of (at layouts.old node)) (items_of (value_of_ref v)) from }
-    ensures { EachVisited (item_of (at layouts.old node)) (items_of (value_of_ref v.entry)) layouts.old layouts.new (node + 3) from result }
+    ensures { EachVisited (item_of (at layouts.old node)) (items_of (value_of_ref v.entry)) layouts.old
+        layouts.new (node + 3) from result }
 {
     let n = v.len();
     let mut next = from;
@@ -79,7 +80,8 @@ fn visit_pairs(layouts: &mut Layouts, node: u32, v: TreeRef<'_>, from: u64) -> u
     requires holder { IsHolder (at layouts.old node) }
     requires map { IsMap (value_of_ref v) }
     requires ready { EachReady (item_of (at layouts.old node)) (items_of (value_of_ref v)) from }
-    ensures { EachVisited (item_of (at layouts.old node)) (items_of (value_of_ref v.entry)) layouts.old layouts.new (node + 3) from result }
+    ensures { EachVisited (item_of (at layouts.old node)) (items_of (value_of_ref v.entry)) layouts.old
+        layouts.new (node + 3) from result }
 {
     let n = v.len();
     let mut next = from;
@@ -101,7 +103,8 @@ fn visit_pair(
 ) -> u64
     requires node { IsNode layouts.old node }
     requires ready { Ready (at layouts.old node) (pair (value_of_ref key) (value_of_ref value)) from }
-    ensures { Visited (at layouts.old node) (pair (value_of_ref key.entry) (value_of_ref value.entry)) layouts.old layouts.new node from result }
+    ensures { Visited (at layouts.old node) (pair (value_of_ref key.entry) (value_of_ref value.entry))
+        layouts.old layouts.new node from result }
 {
     let first = node + 1;
     let second = layouts.past(first);

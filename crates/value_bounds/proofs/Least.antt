@@ -1,5 +1,6 @@
 -- The least of numbers.
-use Rattle.std.proofs.Common.{◌≡◌, ◌⊎◌, inl, inr, ℕ, ◌-◌, ◌^◌, ◌<◌, ◌≤◌, List, [], ◌∷◌, ℤ, pos, negsuc, Bool, true, false, arith, refl, ap, sym, ◌∙◌, subst}
+use Rattle.std.proofs.Common.{◌≡◌, ◌⊎◌, inl, inr, ℕ, ◌-◌, ◌^◌, ◌<◌, ◌≤◌, List, [], ◌∷◌, ℤ, pos, negsuc, Bool}
+use Rattle.std.proofs.Common.{true, false, arith, refl, ap, sym, ◌∙◌, subst}
 use Rattle.std.specs.Prelude.{◌≤ℤ◌, int_lt, cond, if◌then◌else◌}
 use Rattle.std.specs.Int.{int_min, int_max}
 use Rattle.std.specs.List.{fold, AllByRecursion}
@@ -27,7 +28,8 @@ fold_among a (x ∷ xs) = elim (fold_among (int_min a x) xs) [
   | inr h ↦ inr (inr h)
 ]
 
-fold_below : (a : ℤ) (xs : List ℤ) → (fold int_min a xs ≤ℤ a) × AllByRecursion (λ (y : ℤ). fold int_min a xs ≤ℤ y) xs
+fold_below : (a : ℤ) (xs : List ℤ) → (fold int_min a xs ≤ℤ a)
+    × AllByRecursion (λ (y : ℤ). fold int_min a xs ≤ℤ y) xs
 fold_below a [] = (omega (arith, ints), tt)
 fold_below a (x ∷ xs) =
     let h = fold_below (int_min a x) xs in
@@ -52,12 +54,14 @@ zero_in I32 = omega arith
 zero_in I64 = omega arith
 
 -- the least of numbers of a kind is of the kind
-pub least_in : (k : Whole) (xs : List ℤ) → AllByRecursion (InBits (value_bits k)) xs → InBits (value_bits k) (least_of xs)
+pub least_in : (k : Whole) (xs : List ℤ) → AllByRecursion (InBits (value_bits k)) xs
+    → InBits (value_bits k) (least_of xs)
 least_in k [] h = zero_in k
 least_in k (x ∷ xs) h = fold_in (InBits (value_bits k)) x xs h.0 h.1
 
 -- numbers of a kind are from the least i64 to the greatest
-in_words : (k : Whole) (x : ℤ) → InBits (value_bits k) x → (negsuc (2 ^ 63 - 1) ≤ℤ x) × (x ≤ℤ pos (2 ^ 63 - 1))
+in_words : (k : Whole) (x : ℤ) → InBits (value_bits k) x → (negsuc (2 ^ 63 - 1) ≤ℤ x)
+    × (x ≤ℤ pos (2 ^ 63 - 1))
 in_words I8 (pos n) h = (omega (arith, ints), omega (arith, ints))
 in_words I16 (pos n) h = (omega (arith, ints), omega (arith, ints))
 in_words I32 (pos n) h = (omega (arith, ints), omega (arith, ints))
@@ -71,7 +75,8 @@ not_below : (a b : ℤ) → a ≤ℤ b → int_lt b a ≡ false
 not_below a b h = grind (arith, ints)
 
 -- what bounds give as a base is the least number
-pub base_is_least : (k : Whole) (xs : List ℤ) → AllByRecursion (InBits (value_bits k)) xs → base_by (bounds_of xs) ≡ least_of xs
+pub base_is_least : (k : Whole) (xs : List ℤ) → AllByRecursion (InBits (value_bits k)) xs
+    → base_by (bounds_of xs) ≡ least_of xs
 base_is_least k [] h = refl
 base_is_least k (x ∷ xs) h =
     let w = in_words k x h.0 in
@@ -82,6 +87,8 @@ base_is_least k (x ∷ xs) h =
     let least = (fold-int_min_bounds x xs (fold int_min x xs) refl).0 in
     let most = (fold-int_max_bounds x xs (fold int_max x xs) refl).0 in
     let order : fold int_min x xs ≤ℤ fold int_max x xs = omega (arith, ints) in
-    ap (λ z. if int_lt (fold int_max z xs) (fold int_min (int_min (pos (2 ^ 63 - 1)) x) xs) then pos 0 else fold int_min (int_min (pos (2 ^ 63 - 1)) x) xs) eg
+    ap (λ z. if int_lt (fold int_max z xs) (fold int_min (int_min (pos (2 ^ 63 - 1)) x) xs) then pos 0 else
+    fold int_min (int_min (pos (2 ^ 63 - 1)) x) xs) eg
     ∙ ap (λ z. if int_lt (fold int_max x xs) (fold int_min z xs) then pos 0 else fold int_min z xs) el
-    ∙ ap (λ b. if b then pos 0 else fold int_min x xs) (not_below (fold int_min x xs) (fold int_max x xs) order)
+    ∙ ap (λ b. if b then pos 0 else fold int_min x xs)
+    (not_below (fold int_min x xs) (fold int_max x xs) order)

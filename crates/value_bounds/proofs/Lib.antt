@@ -1,5 +1,6 @@
 pub mod Seen
 pub mod Arms
+pub mod Forms
 pub mod Left
 pub mod Least
 pub mod Holes

@@ -1,5 +1,6 @@
 -- The numbers of a value at each node of its layout, and their bounds.
-use Rattle.std.specs.Prelude.{◌≡◌, ℕ, zero, suc, ◌-◌, ◌^◌, List, [], ◌∷◌, ◌++◌, map, ℤ, pos, negsuc, int_lt, if◌then◌else◌}
+use Rattle.std.specs.Prelude.{◌≡◌, ℕ, zero, suc, ◌-◌, ◌^◌, List, [], ◌∷◌, ◌++◌, map, ℤ, pos, negsuc, int_lt}
+use Rattle.std.specs.Prelude.{if◌then◌else◌}
 use Rattle.std.specs.Int.{int_min, int_max}
 use Rattle.std.specs.List.{fold}
 use Rattle.frozen_model.specs.Trees.{Leaf, ByteRange, ItemRange, Optional, Struct, NoField, Field}
@@ -8,8 +9,8 @@ use Rattle.frozen_model.specs.Layouts.{Layout, Layouts}
 use Rattle.frozen_model.specs.Holding.{Puts, AllPuts, puts, puts_each, puts_all}
 use Rattle.value_bounds.specs.declared.bounds.Bounds.{Bounds}
 
--- the numbers at each node in preorder: none at a node with nodes below it, and none of a distance, since distances turn
--- on widths
+-- the numbers at each node in preorder: none at a node with nodes below it, and none of a distance, since
+-- distances turn on widths
 abbrev mutual
   pub numbers : Puts → List (List ℤ)
   numbers (Leaf k xs) = xs ∷ []

@@ -12,8 +12,9 @@ use layout_tree::Layouts;
 use std::alloc::{AllocError, Global};
 use typed_tree::TreeRef;
 
-/// Gives each leaf of whole numbers the least of its numbers as its base, 0 where there are none, and changes nothing else.
-/// It takes memory for the bounds of the layout's nodes; where there is none the layout is as before.
+/// Gives each leaf of whole numbers the least of its numbers as its base, 0 where there are none, and changes
+/// nothing else. It takes memory for the bounds of the layout's nodes; where there is none the layout is as
+/// before.
 pub fn set_bases(alloc: Global, layouts: &mut Layouts, v: TreeRef<'_>) -> Result<(), AllocError>
     requires version { (layout_of layouts.old).version ≡ Version2 }
     requires blank { Blank (layout_of layouts.old).tree }

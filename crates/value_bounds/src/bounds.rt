@@ -2,7 +2,8 @@
 ghost use Rattle.std.specs.Prelude.{◌≡◌, ◌<◌, length, [], ◌∷◌};
 ghost use Rattle.value_bounds.specs.Seeing.{seen_from, base_by};
 
-/// The least and the greatest of some numbers. Of no number the least is the greatest `i64`, and the greatest the least.
+/// The least and the greatest of some numbers. Of no number the least is the greatest `i64`, and the greatest
+/// the least.
 #[derive(Clone, Copy, Debug, PartialEq, Eq)]
 pub struct Bounds {
     pub least: i64,

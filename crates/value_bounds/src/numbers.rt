@@ -12,8 +12,9 @@ use layout_tree::Layouts;
 use std::alloc::{AllocError, Global};
 use typed_tree::TreeRef;
 
-/// The bounds of the numbers that packing a value puts at each node of a layout, by the node's number: of a flag or an isset
-/// 0 and 1, of a range the counts. Distances turn on widths; they are left out, as are nodes with nodes below them.
+/// The bounds of the numbers that packing a value puts at each node of a layout, by the node's number: of a
+/// flag or an isset 0 and 1, of a range the counts. Distances turn on widths; they are left out, as are nodes
+/// with nodes below them.
 pub fn survey(alloc: Global, layouts: &Layouts, v: TreeRef<'_>) -> Result<Vec<Bounds>, AllocError>
     requires { Of (layout_of layouts.now).tree (value_of_ref v) }
     ensures { let l = (layout_of layouts.now).tree in

@@ -50,7 +50,8 @@ fn see_items(layouts: &Layouts, node: u32, v: TreeRef<'_>, bounds: &mut [Bounds]
     requires row { IsRow (value_of_ref v) }
     requires form { OfEach (item_of (at layouts.now node)) (items_of (value_of_ref v)) }
     requires room { length bounds.old ≡ nodes (noted_in layouts.now) }
-    ensures { EachSaw (item_of (at layouts.now node)) (items_of (value_of_ref v.entry)) bounds.old bounds.new (node + 3) }
+    ensures { EachSaw (item_of (at layouts.now node)) (items_of (value_of_ref v.entry)) bounds.old bounds.new
+        (node + 3) }
 {
     let n = v.len();
     for i in 0..n {
@@ -66,7 +67,8 @@ fn see_pairs(layouts: &Layouts, node: u32, v: TreeRef<'_>, bounds: &mut [Bounds]
     requires map { IsMap (value_of_ref v) }
     requires form { OfEach (item_of (at layouts.now node)) (items_of (value_of_ref v)) }
     requires room { length bounds.old ≡ nodes (noted_in layouts.now) }
-    ensures { EachSaw (item_of (at layouts.now node)) (items_of (value_of_ref v.entry)) bounds.old bounds.new (node + 3) }
+    ensures { EachSaw (item_of (at layouts.now node)) (items_of (value_of_ref v.entry)) bounds.old bounds.new
+        (node + 3) }
 {
     let n = v.len();
     for i in 0..n {
@@ -87,7 +89,8 @@ fn see_pair(
     requires node { IsNode layouts.now node }
     requires form { Of (at layouts.now node) (pair (value_of_ref key) (value_of_ref value)) }
     requires room { length bounds.old ≡ nodes (noted_in layouts.now) }
-    ensures { Saw (at layouts.now node) (pair (value_of_ref key.entry) (value_of_ref value.entry)) bounds.old bounds.new node }
+    ensures { Saw (at layouts.now node) (pair (value_of_ref key.entry) (value_of_ref value.entry)) bounds.old
+        bounds.new node }
 {
     let first = node + 1;
     see_part(layouts, first, key, bounds);

@@ -15,7 +15,10 @@ inline_cells-requires c =
     let ns = l.nodes.items in
     let n = c.args.node in
     let k = kept ns n c.node.result (ap (λ r. slice_get (map shown r) n) l.listing ∙ c.node.ensures) in
-    record { node = part_here ns n k.node l.listing c.requires k.is (λ e. c.in_default.not-Flag (sym k.kind ∙ e)) (λ e. c.in_default.not-Size (sym k.kind ∙ e)) }
+    record {
+      node = part_here ns n k.node l.listing c.requires k.is
+          (λ e. c.in_default.not-Flag (sym k.kind ∙ e)) (λ e. c.in_default.not-Size (sym k.kind ∙ e));
+    }
 
 pub is_sure-requires : goal.is_sure-requires
 is_sure-requires c =
@@ -23,7 +26,10 @@ is_sure-requires c =
     let ns = l.nodes.items in
     let n = c.args.node in
     let k = kept ns n c.node.result (ap (λ r. slice_get (map shown r) n) l.listing ∙ c.node.ensures) in
-    record { node = part_here ns n k.node l.listing c.requires k.is (λ e. c.in_default.not-Flag (sym k.kind ∙ e)) (λ e. c.in_default.not-Size (sym k.kind ∙ e)) }
+    record {
+      node = part_here ns n k.node l.listing c.requires k.is
+          (λ e. c.in_default.not-Flag (sym k.kind ∙ e)) (λ e. c.in_default.not-Size (sym k.kind ∙ e));
+    }
 
 pub returns-in-Flag : goal.returns-in-Flag
 returns-in-Flag c p =
@@ -31,5 +37,6 @@ returns-in-Flag c p =
     let ns = l.nodes.items in
     let n = c.args.node in
     let k = kept ns n c.node.result (ap (λ r. slice_get (map shown r) n) l.listing ∙ c.node.ensures) in
-    let e = ap (λ x. plain x.kind) k.is ∙ kind_read (version_of l.version) (at_part ns (sub (tree_of ns) n) n l.listing p) k.node in
+    let e = ap (λ x. plain x.kind) k.is
+    ∙ kind_read (version_of l.version) (at_part ns (sub (tree_of ns) n) n l.listing p) k.node in
     lone_facts (at l n) c.node.result.kind (ap plain (sym k.kind) ∙ e) c.in-Flag.is

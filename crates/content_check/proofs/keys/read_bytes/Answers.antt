@@ -11,4 +11,5 @@ returns-in-Ok-clause-value c x e =
     let a = c.args in
     let bs = a.content.now in
     let en : c.in-Ok.after.next ≡ x.1 = ap next_of (c.in-Ok.ensures.same ∙ ap without_value e) in
-    bytes_value bs (at a.layouts.now a.node) a.text a.start a.bit a.reach.next a.reach.cells x c.requires.bytes e ∙ ap (λ k. Bytes (take (k - a.reach.next) (drop a.reach.next bs))) (sym en)
+    bytes_value bs (at a.layouts.now a.node) a.text a.start a.bit a.reach.next a.reach.cells x
+    c.requires.bytes e ∙ ap (λ k. Bytes (take (k - a.reach.next) (drop a.reach.next bs))) (sym en)

@@ -1,7 +1,5 @@
-use Rattle.std.proofs.Math.Logic.{∥∥₁_map}
 use Rattle.frozen_model.specs.BitLaws.{IsBytes}
 use Rattle.layout_tree.specs.Nodes.{layout_of}
-use Rattle.content_check.proofs.Held.{layout_held}
 use Rattle.content_check.proofs.Exact.{opens, complete, fails}
 use Rattle.content_check.proofs.open.check_content.Goals as goal
 
@@ -10,7 +8,7 @@ returns c =
     let d = layout_of c.args.layouts.now in
     let bs = c.args.content.now in
     let r = c.walk_content.result in
-    let is = layout_held d.version d.tree (∥∥₁_map c.layouts_are_described.ensures.bits (λ x. x.layout)) in
+    let is = c.layouts_are_described.ensures.bits.layout in
     let small : IsBytes bs = λ k. (c.type_inv.content k).fits in
     let w = c.walk_content.ensures in
     record {

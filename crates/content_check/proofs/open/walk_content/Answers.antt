@@ -15,7 +15,10 @@ pub bits-bits-requires : goal.bits-bits-requires
 bits-bits-requires c = root_node (tree_of c.args.layouts.now.nodes.items)
 
 pub cells_at-cells-requires : goal.cells_at-cells-requires
-cells_at-cells-requires c = record { node = root_node (tree_of c.args.layouts.now.nodes.items); facts = c.note_facts.ensures }
+cells_at-cells-requires c = record {
+  node = root_node (tree_of c.args.layouts.now.nodes.items);
+  facts = c.note_facts.ensures;
+}
 
 pub check_part-requires-clause-node : goal.check_part-requires-clause-node
 check_part-requires-clause-node c = root_node (tree_of c.args.layouts.now.nodes.items)
@@ -41,7 +44,8 @@ returns-in-Err c =
     let first = (c.bits-bits.result + 7) / 8 in
     let en : first ≡ bytes_for (stride l) = ap (λ z. (z + 7) / 8) es in
     let n = 8 * first - c.bits-bits.result in
-    let ek : n ≡ 8 * bytes_for (stride l) - stride l = ap (λ z. 8 * z - c.bits-bits.result) en ∙ ap (λ z. 8 * bytes_for (stride l) - z) es in
+    let ek : n ≡ 8 * bytes_for (stride l) - stride l = ap (λ z. 8 * z - c.bits-bits.result) en
+    ∙ ap (λ z. 8 * bytes_for (stride l) - z) es in
     let le : bytes_for (stride l) ≤ length bs = omega (arith, c.if-first-content.false, en) in
     dirty_opens bs l c.bits-bits.result n c.in-Err.fault es ek le c.in-Err.ensures
 
@@ -55,14 +59,19 @@ returns-then-end-content c =
     let first = (c.bits-bits.result + 7) / 8 in
     let en : first ≡ bytes_for (stride l) = ap (λ z. (z + 7) / 8) es in
     let n = 8 * first - c.bits-bits.result in
-    let ek : n ≡ 8 * bytes_for (stride l) - stride l = ap (λ z. 8 * z - c.bits-bits.result) en ∙ ap (λ z. 8 * bytes_for (stride l) - z) es in
+    let ek : n ≡ 8 * bytes_for (stride l) - stride l = ap (λ z. 8 * z - c.bits-bits.result) en
+    ∙ ap (λ z. 8 * bytes_for (stride l) - z) es in
     let le : bytes_for (stride l) ≤ length bs = omega (arith, c.if-first-content.false, en) in
     let ec : c.cells_at-cells.result ≡ inline_cells l = c.cells_at-cells.ensures.cells ∙ ap inline_cells e0 in
     let at0 : Reach = record { next = first; cells = c.cells_at-cells.result } in
-    let s1 = subst (λ (z : Layout). Agrees bs (walk bs z 0 None 0 first c.cells_at-cells.result) at0 (Ok c.in-Ok-check_part.end)) e0 c.in-Ok-check_part.ensures in
-    let s2 = subst (λ k. Agrees bs (walk bs l 0 None 0 k c.cells_at-cells.result) at0 (Ok c.in-Ok-check_part.end)) en s1 in
-    let s3 = subst (λ k. Agrees bs (walk bs l 0 None 0 (bytes_for (stride l)) k) at0 (Ok c.in-Ok-check_part.end)) ec s2 in
-    ok_opens bs l c.bits-bits.result n at0 c.in-Ok-check_part.end es ek le c.in-Ok.ensures s3 c.if-end-content.true
+    let s1 = subst (λ (z : Layout). Agrees bs (walk bs z 0 None 0 first c.cells_at-cells.result) at0
+    (Ok c.in-Ok-check_part.end)) e0 c.in-Ok-check_part.ensures in
+    let s2 = subst (λ k. Agrees bs (walk bs l 0 None 0 k c.cells_at-cells.result) at0
+    (Ok c.in-Ok-check_part.end)) en s1 in
+    let s3 = subst (λ k. Agrees bs (walk bs l 0 None 0 (bytes_for (stride l)) k) at0
+    (Ok c.in-Ok-check_part.end)) ec s2 in
+    ok_opens bs l c.bits-bits.result n at0 c.in-Ok-check_part.end es ek le c.in-Ok.ensures s3
+    c.if-end-content.true
 
 pub returns-else-end-content : goal.returns-else-end-content
 returns-else-end-content c =
@@ -74,14 +83,19 @@ returns-else-end-content c =
     let first = (c.bits-bits.result + 7) / 8 in
     let en : first ≡ bytes_for (stride l) = ap (λ z. (z + 7) / 8) es in
     let n = 8 * first - c.bits-bits.result in
-    let ek : n ≡ 8 * bytes_for (stride l) - stride l = ap (λ z. 8 * z - c.bits-bits.result) en ∙ ap (λ z. 8 * bytes_for (stride l) - z) es in
+    let ek : n ≡ 8 * bytes_for (stride l) - stride l = ap (λ z. 8 * z - c.bits-bits.result) en
+    ∙ ap (λ z. 8 * bytes_for (stride l) - z) es in
     let le : bytes_for (stride l) ≤ length bs = omega (arith, c.if-first-content.false, en) in
     let ec : c.cells_at-cells.result ≡ inline_cells l = c.cells_at-cells.ensures.cells ∙ ap inline_cells e0 in
     let at0 : Reach = record { next = first; cells = c.cells_at-cells.result } in
-    let s1 = subst (λ (z : Layout). Agrees bs (walk bs z 0 None 0 first c.cells_at-cells.result) at0 (Ok c.in-Ok-check_part.end)) e0 c.in-Ok-check_part.ensures in
-    let s2 = subst (λ k. Agrees bs (walk bs l 0 None 0 k c.cells_at-cells.result) at0 (Ok c.in-Ok-check_part.end)) en s1 in
-    let s3 = subst (λ k. Agrees bs (walk bs l 0 None 0 (bytes_for (stride l)) k) at0 (Ok c.in-Ok-check_part.end)) ec s2 in
-    long_opens bs l c.bits-bits.result n at0 c.in-Ok-check_part.end es ek le c.in-Ok.ensures s3 c.if-end-content.false
+    let s1 = subst (λ (z : Layout). Agrees bs (walk bs z 0 None 0 first c.cells_at-cells.result) at0
+    (Ok c.in-Ok-check_part.end)) e0 c.in-Ok-check_part.ensures in
+    let s2 = subst (λ k. Agrees bs (walk bs l 0 None 0 k c.cells_at-cells.result) at0
+    (Ok c.in-Ok-check_part.end)) en s1 in
+    let s3 = subst (λ k. Agrees bs (walk bs l 0 None 0 (bytes_for (stride l)) k) at0
+    (Ok c.in-Ok-check_part.end)) ec s2 in
+    long_opens bs l c.bits-bits.result n at0 c.in-Ok-check_part.end es ek le c.in-Ok.ensures s3
+    c.if-end-content.false
 
 pub returns-in-Err-check_part : goal.returns-in-Err-check_part
 returns-in-Err-check_part c =
@@ -93,11 +107,15 @@ returns-in-Err-check_part c =
     let first = (c.bits-bits.result + 7) / 8 in
     let en : first ≡ bytes_for (stride l) = ap (λ z. (z + 7) / 8) es in
     let n = 8 * first - c.bits-bits.result in
-    let ek : n ≡ 8 * bytes_for (stride l) - stride l = ap (λ z. 8 * z - c.bits-bits.result) en ∙ ap (λ z. 8 * bytes_for (stride l) - z) es in
+    let ek : n ≡ 8 * bytes_for (stride l) - stride l = ap (λ z. 8 * z - c.bits-bits.result) en
+    ∙ ap (λ z. 8 * bytes_for (stride l) - z) es in
     let le : bytes_for (stride l) ≤ length bs = omega (arith, c.if-first-content.false, en) in
     let ec : c.cells_at-cells.result ≡ inline_cells l = c.cells_at-cells.ensures.cells ∙ ap inline_cells e0 in
     let at0 : Reach = record { next = first; cells = c.cells_at-cells.result } in
-    let s1 = subst (λ (z : Layout). Agrees bs (walk bs z 0 None 0 first c.cells_at-cells.result) at0 (Err c.in-Err-check_part.fault)) e0 c.in-Err-check_part.ensures in
-    let s2 = subst (λ k. Agrees bs (walk bs l 0 None 0 k c.cells_at-cells.result) at0 (Err c.in-Err-check_part.fault)) en s1 in
-    let s3 = subst (λ k. Agrees bs (walk bs l 0 None 0 (bytes_for (stride l)) k) at0 (Err c.in-Err-check_part.fault)) ec s2 in
+    let s1 = subst (λ (z : Layout). Agrees bs (walk bs z 0 None 0 first c.cells_at-cells.result) at0
+    (Err c.in-Err-check_part.fault)) e0 c.in-Err-check_part.ensures in
+    let s2 = subst (λ k. Agrees bs (walk bs l 0 None 0 k c.cells_at-cells.result) at0
+    (Err c.in-Err-check_part.fault)) en s1 in
+    let s3 = subst (λ k. Agrees bs (walk bs l 0 None 0 (bytes_for (stride l)) k) at0
+    (Err c.in-Err-check_part.fault)) ec s2 in
     err_opens bs l c.bits-bits.result n at0 c.in-Err-check_part.fault es ek le c.in-Ok.ensures s3

@@ -7,7 +7,8 @@ use Rattle.content_check.proofs.Walks.{EachLeft}
 use Rattle.content_check.proofs.sets.check_set_items.Given as goal
 
 abbrev pub invariant-loop-left : goal.invariant-loop-left
-invariant-loop-left l = EachLeft l.content ASet (item_of (at l.layouts l.node)) l.start l.n l.fn.from (key_value l.before) l.left l.bit l.reach × IsOfKind (item_of (at l.layouts l.node)) l.before
+invariant-loop-left l = EachLeft l.content ASet (item_of (at l.layouts l.node)) l.start l.n l.fn.from
+    (key_value l.before) l.left l.bit l.reach × IsOfKind (item_of (at l.layouts l.node)) l.before
 
 abbrev pub decreases-loop-left : goal.decreases-loop-left
 decreases-loop-left l = l.left

@@ -23,6 +23,16 @@ from_nodes-requires c = record {
     };
     numbered = refl;
     relaxes = refl;
-    nodes = search (rules, c.in_ok-to_vec.ensures.items_if_clones_equal, c.node.ensures, c.node-2.ensures, c.node-3.ensures, c.node-4.ensures, c.node-5.ensures, c.node-6.ensures, c.node-7.ensures);
+    nodes = search (
+      rules,
+      c.in_ok-to_vec.ensures.items_if_clones_equal,
+      c.node.ensures,
+      c.node-2.ensures,
+      c.node-3.ensures,
+      c.node-4.ensures,
+      c.node-5.ensures,
+      c.node-6.ensures,
+      c.node-7.ensures,
+    );
   };
 }

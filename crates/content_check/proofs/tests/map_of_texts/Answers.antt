@@ -12,7 +12,19 @@ from_nodes-requires c = record {
       layout = record {
         root = tt;
         kind_tree = record {
-          formed = ((omega arith, omega arith, tt), (((refl, tt, refl, tt), ((omega arith, omega arith, (omega arith, omega arith, tt)), (tt, (tt, tt)))), tt));
+          formed = (
+            (omega arith, omega arith, tt),
+            (
+              (
+                (refl, tt, refl, tt),
+                (
+                  (omega arith, omega arith, (omega arith, omega arith, tt)),
+                  (tt, (tt, tt)),
+                ),
+              ),
+              tt,
+            ),
+          );
           few = omega arith;
           shallow = omega arith;
           narrow = (omega arith, ((omega arith, (tt, (tt, tt))), tt));
@@ -23,6 +35,18 @@ from_nodes-requires c = record {
     };
     numbered = refl;
     relaxes = refl;
-    nodes = search (rules, c.in_ok-to_vec.ensures.items_if_clones_equal, c.node.ensures, c.node-2.ensures, c.node-3.ensures, c.node-4.ensures, c.node-5.ensures, c.node-6.ensures, c.node-7.ensures, c.node-8.ensures, c.node-9.ensures);
+    nodes = search (
+      rules,
+      c.in_ok-to_vec.ensures.items_if_clones_equal,
+      c.node.ensures,
+      c.node-2.ensures,
+      c.node-3.ensures,
+      c.node-4.ensures,
+      c.node-5.ensures,
+      c.node-6.ensures,
+      c.node-7.ensures,
+      c.node-8.ensures,
+      c.node-9.ensures,
+    );
   };
 }

@@ -30,7 +30,9 @@ write_part-requires c =
     record {
       based = based_is v (of_z w32 c.version-based.result) (ap (of_z w32) c.version-based.ensures);
       node = root_node t;
-      ready = subst (λ (z : Layout). Ready z u c.take.new.self i.root 0) (sym e0) (root_ready l u old c.take.new.self i.root n c.requires.holds en (omega (arith, es, c.bits-bits.type_inv)) i.ensures.block i.ensures.after c.requires.left);
+      ready = subst (λ (z : Layout). Ready z u c.take.new.self i.root 0) (sym e0)
+          (root_ready l u old c.take.new.self i.root n c.requires.holds en
+          (omega (arith, es, c.bits-bits.type_inv)) i.ensures.block i.ensures.after c.requires.left);
     }
 
 pub returns : goal.returns
@@ -47,7 +49,9 @@ returns c =
     let en : n ≡ bytes_for (stride l) = ap (λ z. (z + 7) / 8) es in
     let i = c.in-Some in
     let new = c.write_part.new.region in
-    let w = whole l u old c.take.new.self new i.root n en i.ensures.block i.ensures.after c.requires.left c.left-left.ensures.region.blank c.left-left.ensures.bytes c.left-left-2.ensures.bytes (subst (λ (z : Layout). Wrote z u c.take.new.self new i.root 0) e0 c.write_part.ensures) in
+    let w = whole l u old c.take.new.self new i.root n en i.ensures.block i.ensures.after c.requires.left
+    c.left-left.ensures.region.blank c.left-left.ensures.bytes c.left-left-2.ensures.bytes
+    (subst (λ (z : Layout). Wrote z u c.take.new.self new i.root 0) e0 c.write_part.ensures) in
     record { taken = w.taken; length = w.length; before = w.before; packed = w.packed }
 
 pub returns-in_default : goal.returns-in_default

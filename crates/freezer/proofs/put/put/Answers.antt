@@ -13,4 +13,7 @@ returns-clause-bits c =
     let long : length ws ≡ b.len = omega (arith, c.write_bits.auto.bytes, c.lend.ensures.len) in
     let inside : b.start + b.len ≤ length bs = omega (arith, c.requires, c.lend.ensures.region.inside) in
     ap bits_of (loan_is_write s b ws long c.lend.ensures.region.inside c.requires.taken)
-    ∙ put_in_block bs ws b.start b.len c.args.bit c.args.width (bits c.args.width c.args.x) inside long c.requires.inside (c.write_bits.ensures ∙ ap (λ (r : List ℕ). put (bits_of r) c.args.bit c.args.width (bits c.args.width c.args.x)) c.lend.ensures.value)
+    ∙ put_in_block bs ws b.start b.len c.args.bit c.args.width (bits c.args.width c.args.x) inside long
+    c.requires.inside (c.write_bits.ensures
+    ∙ ap (λ (r : List ℕ). put (bits_of r) c.args.bit c.args.width (bits c.args.width c.args.x))
+    c.lend.ensures.value)

@@ -1,4 +1,5 @@
-use Rattle.std.proofs.Common.{◌≡◌, rules, false, arith, refl, pos, negsuc, ℕ, ◌<◌, ◌≤◌, ◌+◌, ◌*◌, ap, sym, ◌∙◌, subst, length, List, [], ◌∷◌, ◌++◌}
+use Rattle.std.proofs.Common.{◌≡◌, rules, false, arith, refl, pos, negsuc, ℕ, ◌<◌, ◌≤◌, ◌+◌, ◌*◌, ap, sym}
+use Rattle.std.proofs.Common.{◌∙◌, subst, length, List, [], ◌∷◌, ◌++◌}
 use Rattle.block_region.specs.Space.{Space}
 use Rattle.frozen_model.specs.Bits.{digits}
 use Rattle.typed_tree.specs.Fields.{record_of as record_in, id_numbers}
@@ -7,7 +8,8 @@ use Rattle.frozen_model.specs.Values.{Value, Number, One, one, record_of, part, 
 use Rattle.frozen_model.specs.Rows.{two_fields, two_numbers}
 use Rattle.frozen_model.specs.Holding.{Holds}
 use Rattle.frozen_model.specs.Packing.{extent, bytes_for}
-use Rattle.frozen_model.specs.Layouts.{Version1, TwosComplement, Layout, Described, signed_coded, described, stride}
+use Rattle.frozen_model.specs.Layouts.{Version1, TwosComplement, Layout, Described, signed_coded, described}
+use Rattle.frozen_model.specs.Layouts.{stride}
 use Rattle.frozen_laws.proofs.Holding.{fit_at}
 use Rattle.layout_tree.specs.declared.node.NodeSpec.{NodeSpec}
 use Rattle.layout_tree.specs.Nodes.{layout_of}
@@ -15,7 +17,9 @@ use Rattle.layout_tree.specs.Given.{IsListOf, shown_nodes, noted_from}
 use Rattle.typed_tree.specs.References.{value_of_ref}
 use Rattle.freezer.proofs.tests.two_fields_are_packed.Goals as goal
 
-given : (ns : List NodeSpec) → ns ≡ shown_nodes (noted_from (two_fields (TwosComplement 4) (TwosComplement 1))) → IsListOf (described Version1 false (two_fields (TwosComplement 4) (TwosComplement 1))) ns (pos 1) false
+given : (ns : List NodeSpec) → ns
+    ≡ shown_nodes (noted_from (two_fields (TwosComplement 4) (TwosComplement 1)))
+    → IsListOf (described Version1 false (two_fields (TwosComplement 4) (TwosComplement 1))) ns (pos 1) false
 given ns e = record {
   described = record {
     relaxing = refl;
@@ -43,7 +47,16 @@ holds : Holds (two_fields (TwosComplement 4) (TwosComplement 1)) (two_numbers (p
 unfolding digits
 holds =
     let of = record_of refl (part (one (omega arith)) (part (one (omega arith)) no_part)) in
-    record { of_kind = of; fits = fit_at of 1 (record { reached = tt; wide = omega arith }, (record { reached = tt; wide = omega arith }, tt)) }
+    record {
+      of_kind = of;
+      fits = fit_at of 1 (
+        record {
+          reached = tt;
+          wide = omega arith;
+        },
+        (record { reached = tt; wide = omega arith }, tt),
+      );
+    }
 
 pub from_nodes-layouts-requires : goal.from_nodes-layouts-requires
 from_nodes-layouts-requires c d = record {
@@ -53,20 +66,45 @@ from_nodes-layouts-requires c d = record {
 
 pub freeze_into-requires-clause-holds : goal.freeze_into-requires-clause-holds
 freeze_into-requires-clause-holds c d =
-    let el = ap (λ (x : Described). x.tree) (d.from_nodes-layouts.ensures.layout (described Version1 false (two_fields (TwosComplement 4) (TwosComplement 1))) (given _ (search (rules, d.in_ok-to_vec.ensures.items_if_clones_equal)))) in
-    let two = d.in_ok-int-2.ensures.pushed.trees ∙ ap (λ (r : List Value). r ++ One (Number (negsuc 0)) ∷ []) (d.in_ok-int.ensures.pushed.trees ∙ ap (λ (r : List Value). r ++ One (Number (pos 5)) ∷ []) d.new-builder.ensures.trees) in
-    let three = d.in_ok-structure.ensures.joined.trees ∙ ap (λ (r : List Value). but_last 2 r ++ record_in (id_numbers (pos 1 ∷ pos 2 ∷ [])) (last 2 r) ∷ []) two in
+    let el = ap (λ (x : Described). x.tree) (d.from_nodes-layouts.ensures.layout
+    (described Version1 false (two_fields (TwosComplement 4) (TwosComplement 1)))
+    (given _ (search (rules, d.in_ok-to_vec.ensures.items_if_clones_equal)))) in
+    let two = d.in_ok-int-2.ensures.pushed.trees
+    ∙ ap (λ (r : List Value). r ++ One (Number (negsuc 0)) ∷ [])
+    (d.in_ok-int.ensures.pushed.trees
+    ∙ ap (λ (r : List Value). r ++ One (Number (pos 5)) ∷ []) d.new-builder.ensures.trees) in
+    let three = d.in_ok-structure.ensures.joined.trees
+    ∙ ap (λ (r : List Value). but_last 2 r ++ record_in (id_numbers (pos 1 ∷ pos 2 ∷ [])) (last 2 r) ∷ [])
+    two in
     let same = sym d.finish-tree.ensures.tree ∙ three in
-    let ev : value_of_ref d.top.result ≡ two_numbers (pos 5) (negsuc 0) = d.top.ensures.value ∙ head_same same in
-    subst (λ (l : Layout). Holds l (value_of_ref d.top.result)) (sym el) (subst (λ (v : Value). Holds (two_fields (TwosComplement 4) (TwosComplement 1)) v) (sym ev) holds)
+    let ev : value_of_ref d.top.result ≡ two_numbers (pos 5) (negsuc 0) = d.top.ensures.value
+    ∙ head_same same in
+    subst (λ (l : Layout). Holds l (value_of_ref d.top.result)) (sym el)
+    (subst (λ (v : Value). Holds (two_fields (TwosComplement 4) (TwosComplement 1)) v) (sym ev) holds)
 
 pub freeze_into-requires-clause-left : goal.freeze_into-requires-clause-left
 freeze_into-requires-clause-left c d =
-    let el = ap (λ (x : Described). x.tree) (d.from_nodes-layouts.ensures.layout (described Version1 false (two_fields (TwosComplement 4) (TwosComplement 1))) (given _ (search (rules, d.in_ok-to_vec.ensures.items_if_clones_equal)))) in
-    let two = d.in_ok-int-2.ensures.pushed.trees ∙ ap (λ (r : List Value). r ++ One (Number (negsuc 0)) ∷ []) (d.in_ok-int.ensures.pushed.trees ∙ ap (λ (r : List Value). r ++ One (Number (pos 5)) ∷ []) d.new-builder.ensures.trees) in
-    let three = d.in_ok-structure.ensures.joined.trees ∙ ap (λ (r : List Value). but_last 2 r ++ record_in (id_numbers (pos 1 ∷ pos 2 ∷ [])) (last 2 r) ∷ []) two in
+    let el = ap (λ (x : Described). x.tree) (d.from_nodes-layouts.ensures.layout
+    (described Version1 false (two_fields (TwosComplement 4) (TwosComplement 1)))
+    (given _ (search (rules, d.in_ok-to_vec.ensures.items_if_clones_equal)))) in
+    let two = d.in_ok-int-2.ensures.pushed.trees
+    ∙ ap (λ (r : List Value). r ++ One (Number (negsuc 0)) ∷ [])
+    (d.in_ok-int.ensures.pushed.trees
+    ∙ ap (λ (r : List Value). r ++ One (Number (pos 5)) ∷ []) d.new-builder.ensures.trees) in
+    let three = d.in_ok-structure.ensures.joined.trees
+    ∙ ap (λ (r : List Value). but_last 2 r ++ record_in (id_numbers (pos 1 ∷ pos 2 ∷ [])) (last 2 r) ∷ [])
+    two in
     let same = sym d.finish-tree.ensures.tree ∙ three in
-    let ev : value_of_ref d.top.result ≡ two_numbers (pos 5) (negsuc 0) = d.top.ensures.value ∙ head_same same in
-    let q : bytes_for (stride (layout_of d.from_nodes-layouts.result).tree) + extent (layout_of d.from_nodes-layouts.result).tree (value_of_ref d.top.result) ≡ 1 =
-    ap (λ (l : Layout). bytes_for (stride l) + extent l (value_of_ref d.top.result)) el ∙ ap (λ (v : Value). bytes_for 5 + extent (two_fields (TwosComplement 4) (TwosComplement 1)) v) ev in
-    omega (arith, ap (λ (s : Space). length s.bytes) d.in_ok-region.ensures.blank, ap (λ (s : Space). s.taken) d.in_ok-region.ensures.blank, q)
+    let ev : value_of_ref d.top.result ≡ two_numbers (pos 5) (negsuc 0) = d.top.ensures.value
+    ∙ head_same same in
+    let q : bytes_for (stride (layout_of d.from_nodes-layouts.result).tree)
+    + extent (layout_of d.from_nodes-layouts.result).tree (value_of_ref d.top.result) ≡ 1 =
+    ap (λ (l : Layout). bytes_for (stride l) + extent l (value_of_ref d.top.result)) el
+    ∙ ap (λ (v : Value). bytes_for 5 + extent (two_fields (TwosComplement 4) (TwosComplement 1)) v) ev in
+    omega (
+      arith,
+      ap (λ (s : Space). length s.bytes) d.in_ok-region.ensures.blank,
+      ap (λ (s : Space). s.taken)
+          d.in_ok-region.ensures.blank,
+      q,
+    )

@@ -15,11 +15,17 @@ overflow_add-both c =
     let gap = c.args.inner.now.start - c.args.block.now.start in
     let d = c.distance_bits-width in
     let e : c.if-n-eq0.distance ≡ distance c.args.n gap =
-    elim c.if-n-eq0.branch [ then-n-eq0 w ↦ distance_none c.args.n gap _ w.if-n-eq0.true w.distance-is | else-n-eq0 w ↦ distance_some c.args.n gap _ w.if-n-eq0.false (omega (arith, w.distance-is, w.start.ensures, w.start-else-n-eq0.ensures)) ] in
-    let hx : digits c.if-n-eq0.distance ≤ d.result = omega (arith, c.requires.fits.0, d.ensures.width, ap digits e) in
+    elim c.if-n-eq0.branch [
+      | then-n-eq0 w ↦ distance_none c.args.n gap _ w.if-n-eq0.true w.distance-is
+      | else-n-eq0 w ↦ distance_some c.args.n gap _ w.if-n-eq0.false
+          (omega (arith, w.distance-is, w.start.ensures, w.start-else-n-eq0.ensures))
+    ] in
+    let hx : digits c.if-n-eq0.distance
+    ≤ d.result = omega (arith, c.requires.fits.0, d.ensures.width, ap digits e) in
     let k = c.count_bits-count_width in
     let hn : digits c.args.n ≤ k.result = omega (arith, c.requires.fits.1, k.ensures.width) in
-    let b = both_in_one d.result k.result c.if-n-eq0.distance c.args.n d.ensures.small k.ensures.small hx hn in
+    let b = both_in_one d.result k.result c.if-n-eq0.distance c.args.n d.ensures.small k.ensures.small hx
+    hn in
     omega (arith, b.room)
 
 pub put-requires-clause-fits : goal.put-requires-clause-fits
@@ -28,8 +34,13 @@ put-requires-clause-fits c =
     let d = c.distance_bits-width in
     let k = c.count_bits-count_width in
     let e : c.if-n-eq0.distance ≡ distance c.args.n gap =
-    elim c.if-n-eq0.branch [ then-n-eq0 w ↦ distance_none c.args.n gap _ w.if-n-eq0.true w.distance-is | else-n-eq0 w ↦ distance_some c.args.n gap _ w.if-n-eq0.false (omega (arith, w.distance-is, w.start.ensures, w.start-else-n-eq0.ensures)) ] in
-    let hx : digits c.if-n-eq0.distance ≤ d.result = omega (arith, c.requires.fits.0, d.ensures.width, ap digits e) in
+    elim c.if-n-eq0.branch [
+      | then-n-eq0 w ↦ distance_none c.args.n gap _ w.if-n-eq0.true w.distance-is
+      | else-n-eq0 w ↦ distance_some c.args.n gap _ w.if-n-eq0.false
+          (omega (arith, w.distance-is, w.start.ensures, w.start-else-n-eq0.ensures))
+    ] in
+    let hx : digits c.if-n-eq0.distance
+    ≤ d.result = omega (arith, c.requires.fits.0, d.ensures.width, ap digits e) in
     let hn : digits c.args.n ≤ k.result = omega (arith, c.requires.fits.1, k.ensures.width) in
     (both_in_one d.result k.result c.if-n-eq0.distance c.args.n d.ensures.small k.ensures.small hx hn).fits
 
@@ -40,7 +51,11 @@ returns-clause-written c q =
     let d = c.distance_bits-width in
     let k = c.count_bits-count_width in
     let e : c.if-n-eq0.distance ≡ distance c.args.n gap =
-    elim c.if-n-eq0.branch [ then-n-eq0 w ↦ distance_none c.args.n gap _ w.if-n-eq0.true w.distance-is | else-n-eq0 w ↦ distance_some c.args.n gap _ w.if-n-eq0.false (omega (arith, w.distance-is, w.start.ensures, w.start-else-n-eq0.ensures)) ] in
+    elim c.if-n-eq0.branch [
+      | then-n-eq0 w ↦ distance_none c.args.n gap _ w.if-n-eq0.true w.distance-is
+      | else-n-eq0 w ↦ distance_some c.args.n gap _ w.if-n-eq0.false
+          (omega (arith, w.distance-is, w.start.ensures, w.start-else-n-eq0.ensures))
+    ] in
     let x = c.if-n-eq0.distance in
     let hx : digits x ≤ d.result = omega (arith, c.requires.fits.0, d.ensures.width, ap digits e) in
     let hn : digits c.args.n ≤ k.result = omega (arith, c.requires.fits.1, k.ensures.width) in
@@ -49,10 +64,14 @@ returns-clause-written c q =
     let b0 = bits_of c.args.region.now.bytes in
     let b1 = bits_of c.put.new.region.bytes in
     let p = 8 * c.args.block.now.start + c.args.bit in
-    let at_widths : bits (distance_width l + count_width l) y ≡ bits (distance_width l) x ++ bits (count_width l) c.args.n =
+    let at_widths : bits (distance_width l + count_width l) y ≡ bits (distance_width l) x
+    ++ bits (count_width l) c.args.n =
     subst (λ (w : ℕ). bits (w + count_width l) y ≡ bits w x ++ bits (count_width l) c.args.n) d.ensures.width
     (subst (λ (w : ℕ). bits (d.result + w) y ≡ bits d.result x ++ bits w c.args.n) k.ensures.width b.bits) in
-    let written : b1 ≡ put b0 p (distance_width l + count_width l) (bits (distance_width l + count_width l) y) =
+    let written : b1 ≡ put b0 p (distance_width l + count_width l)
+    (bits (distance_width l + count_width l) y) =
     subst (λ (w : ℕ). b1 ≡ put b0 p (w + count_width l) (bits (w + count_width l) y)) d.ensures.width
-    (subst (λ (w : ℕ). b1 ≡ put b0 p (d.result + w) (bits (d.result + w) y)) k.ensures.width c.put.ensures.bits) in
-    range_written b0 b1 p (stride l) (distance_width l) (count_width l) x y c.args.n gap q (range_stride l c.requires.range) e at_widths written
+    (subst (λ (w : ℕ). b1 ≡ put b0 p (d.result + w) (bits (d.result + w) y)) k.ensures.width
+    c.put.ensures.bits) in
+    range_written b0 b1 p (stride l) (distance_width l) (count_width l) x y c.args.n gap q
+    (range_stride l c.requires.range) e at_widths written

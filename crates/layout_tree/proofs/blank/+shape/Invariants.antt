@@ -22,7 +22,8 @@ abbrev pub decreases-add_field : goal.decreases-add_field
 decreases-add_field l = 4 * nodes (field_kinds (field_of_ref l.field)) + 2
 
 abbrev pub invariant-add_struct-loop-i : goal.invariant-add_struct-loop-i
-invariant-add_struct-loop-i l = FieldsToAdd (type_of_ref l.ty) l.fn.nodes.items l.field l.parent l.here l.nodes.items l.i
+invariant-add_struct-loop-i l = FieldsToAdd (type_of_ref l.ty) l.fn.nodes.items l.field l.parent l.here
+    l.nodes.items l.i
 
 abbrev pub decreases-add_optional : goal.decreases-add_optional
 decreases-add_optional l = 4 * nodes (kinds_of (type_of_ref l.ty)) + 3

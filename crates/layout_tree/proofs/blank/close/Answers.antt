@@ -10,4 +10,5 @@ returns c pre post x e w =
     let end = c.len-end.result in
     let same : y ≡ x = c.index_mut-spec.ensures.value ∙ seam_get ns pre post x y c.args.node e w in
     let el : end ≡ length ns = omega (arith, c.len-end.ensures, c.args.nodes.now.ok.0) in
-    ap (λ z. slice_set ns c.args.node (marked z end)) same ∙ seam_set ns pre post x (marked x end) c.args.node e w ∙ ap (λ m. pre ++ marked x m ∷ post) el
+    ap (λ z. slice_set ns c.args.node (marked z end)) same
+    ∙ seam_set ns pre post x (marked x end) c.args.node e w ∙ ap (λ m. pre ++ marked x m ∷ post) el

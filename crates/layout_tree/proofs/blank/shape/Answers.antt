@@ -10,14 +10,20 @@ pub add_type-requires : goal.add_type-requires
 add_type-requires c =
     let u = root_of (definition_of c.args.def.now) in
     let h = c.roots_have_kinds.ensures.kinds _ _ c.parts_of-parts.ensures.means in
-    record { room = root_room c.new-nodes.result.items (type_of_ref c.root.result) u c.new-nodes.ensures.items c.root.ensures.tree h.0; field = omega arith }
+    record {
+      room = root_room c.new-nodes.result.items (type_of_ref c.root.result) u c.new-nodes.ensures.items
+          c.root.ensures.tree h.0;
+      field = omega arith;
+    }
 
 pub invariant_of-result : goal.invariant_of-result
 invariant_of-result c =
     let u = root_of (definition_of c.args.def.now) in
     let h = c.roots_have_kinds.ensures.kinds _ _ c.parts_of-parts.ensures.means in
     let new = c.add_type.new.nodes.items in
-    let s = shaped (kinds_of u) new h.0 h.1 (root_added c.new-nodes.result.items new (type_of_ref c.root.result) u c.new-nodes.ensures.items c.root.ensures.tree c.in_ok-add_type.ensures.added) in
+    let s = shaped (kinds_of u) new h.0 h.1 (root_added c.new-nodes.result.items new
+    (type_of_ref c.root.result) u c.new-nodes.ensures.items c.root.ensures.tree
+    c.in_ok-add_type.ensures.added) in
     record { listing = s.listing; sound = s.sound; relaxing = ∣ tt ∣₁ }
 
 pub returns : goal.returns
@@ -25,5 +31,7 @@ returns c =
     let u = root_of (definition_of c.args.def.now) in
     let h = c.roots_have_kinds.ensures.kinds _ _ c.parts_of-parts.ensures.means in
     let new = c.add_type.new.nodes.items in
-    let s = shaped (kinds_of u) new h.0 h.1 (root_added c.new-nodes.result.items new (type_of_ref c.root.result) u c.new-nodes.ensures.items c.root.ensures.tree c.in_ok-add_type.ensures.added) in
+    let s = shaped (kinds_of u) new h.0 h.1 (root_added c.new-nodes.result.items new
+    (type_of_ref c.root.result) u c.new-nodes.ensures.items c.root.ensures.tree
+    c.in_ok-add_type.ensures.added) in
     record { layout = s.layout; settled = s.settled }

@@ -13,7 +13,8 @@ abbrev pub decreases-mark_fields : goal.decreases-mark_fields
 decreases-mark_fields l = 3 * (length l.nodes.now - l.i)
 
 abbrev pub invariant-mark_fields-loop-next : goal.invariant-mark_fields-loop-next
-invariant-mark_fields-loop-next l = (l.i < l.next) × ((g : UnmarkedFields l.fn.nodes l.i) → FieldsToMark g l.nodes l.next)
+invariant-mark_fields-loop-next l = (l.i < l.next)
+    × ((g : UnmarkedFields l.fn.nodes l.i) → FieldsToMark g l.nodes l.next)
 
 abbrev pub decreases-mark_fields-loop-next : goal.decreases-mark_fields-loop-next
 decreases-mark_fields-loop-next l = length l.nodes - l.next

@@ -13,7 +13,8 @@ abbrev pub decreases-settle_fields : goal.decreases-settle_fields
 decreases-settle_fields l = 3 * (length l.nodes.now - l.i) + 3
 
 abbrev pub invariant-settle_fields-loop-next : goal.invariant-settle_fields-loop-next
-invariant-settle_fields-loop-next l = (l.i ≤ l.next) × ((g : Fields l.fn.nodes l.i l.end l.offset) → FieldsLeft g l.nodes l.next l.sum)
+invariant-settle_fields-loop-next l = (l.i ≤ l.next)
+    × ((g : Fields l.fn.nodes l.i l.end l.offset) → FieldsLeft g l.nodes l.next l.sum)
 
 abbrev pub decreases-settle_fields-loop-next : goal.decreases-settle_fields-loop-next
 decreases-settle_fields-loop-next l = l.end - l.next

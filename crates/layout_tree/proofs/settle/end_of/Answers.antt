@@ -16,4 +16,5 @@ pub returns-in_default : goal.returns-in_default
 returns-in_default c g =
     let x = get_or c.args.nodes.now c.args.i _ in
     let o = c.in_default in
-    past_branch x.kind (branch_cases x.kind o.not-Flag o.not-I8 o.not-I16 o.not-I32 o.not-I64 o.not-Size) c.args.i x.wide (nodes g.tree) (past_segment g _)
+    past_branch x.kind (branch_cases x.kind o.not-Flag o.not-I8 o.not-I16 o.not-I32 o.not-I64 o.not-Size)
+    c.args.i x.wide (nodes g.tree) (past_segment g _)

@@ -4,26 +4,31 @@ use mir.Val.{SFits, to_z, of_z}
 use Rattle.frozen_model.specs.Bits.{need_unsigned, need_signed}
 use Rattle.frozen_model.specs.Layouts.{need, width}
 use Rattle.frozen_model.specs.Trees.{Integer, Leaf}
-use Rattle.layout_tree.specs.Listing.{sub, tree_of}
-use Rattle.measure_pass.proofs.Codes.{first_code, second_code}
+use Rattle.layout_tree.specs.Listing.{sub, tree_of, version_of}
+use Rattle.layout_tree.proofs.Codings.{first_code, second_code, is_first, is_second}
 use Rattle.measure_pass.proofs.leaf.need_of.Goals as goal
 
-pub returns-then-version-eq1 : goal.returns-then-version-eq1
-returns-then-version-eq1 c k d e =
+pub returns-else-version-eq2 : goal.returns-else-version-eq2
+returns-else-version-eq2 c k d e =
     let l = c.args.layouts.now in
+    let v = version_of l.version in
     let x = c.args.x in
-    let code = first_code l.version (sub (tree_of l.nodes.items) c.args.node) k d (ap (of_z w32) (sym c.version.ensures) ∙ c.if-version-eq1.true) e in
+    let code = first_code v (sub (tree_of l.nodes.items) c.args.node) k d
+    (is_first v (of_z w32 c.version.result) (ap (of_z w32) c.version.ensures) c.if-version-eq2.false) e in
     let f : SFits w64 x = c.ranges.x in
     c.need_signed.ensures.need ∙ ap need_signed (to_z-of_z w64 x f) ∙ sym (ap (λ q. need q x) code)
 
-pub returns : goal.returns
-returns c k d e =
+pub returns-then-version-eq2 : goal.returns-then-version-eq2
+returns-then-version-eq2 c k d e =
     let l = c.args.layouts.now in
+    let v = version_of l.version in
     let x = c.args.x in
-    let b = second_code l.version (sub (tree_of l.nodes.items) c.args.node) k d (λ h. c.if-version-eq1.false (ap (of_z w32) c.version.ensures ∙ h)) e in
+    let b = second_code v (sub (tree_of l.nodes.items) c.args.node) k d
+    (is_second v (of_z w32 c.version.result) (ap (of_z w32) c.version.ensures) c.if-version-eq2.true) e in
     let base = c.base.ensures (Integer k) b.base (width d) (e ∙ ap (λ q. Leaf (Integer k) q) b.is) in
     let f : SFits w64 x = c.ranges.x in
     let g : SFits w64 c.base.result = search rules in
-    let gap = c.abs_diff.ensures ∙ ap (λ z. nat_abs (z -ℤ to_z w64 (of_z w64 c.base.result))) (to_z-of_z w64 x f) ∙ ap (λ z. nat_abs (x -ℤ z)) (to_z-of_z w64 c.base.result g)
+    let gap = c.abs_diff.ensures ∙ ap (λ z. nat_abs (z -ℤ to_z w64 (of_z w64 c.base.result)))
+    (to_z-of_z w64 x f) ∙ ap (λ z. nat_abs (x -ℤ z)) (to_z-of_z w64 c.base.result g)
     ∙ ap (λ z. nat_abs (x -ℤ z)) base in
     c.need_unsigned.ensures.need ∙ ap need_unsigned gap ∙ sym (ap (λ q. need q x) b.is)

@@ -13,8 +13,8 @@ measure_over-requires-clause-blank g c =
     let u = root_of (definition_of c.args.def.now) in
     let k = kinds_of u in
     let v = value_of_ref c.args.v in
-    let h = c.roots_have_kinds.ensures.kinds _ _ c.parts_of-parts.ensures.means in
-    let f = from_shape (layout_of c.in_ok-blank.blank) k v c.in_ok-blank.ensures.layout h.0 h.1 c.requires.form c.requires.few in
+    let f = from_shape (layout_of c.in_ok-blank.blank) k v c.in_ok-blank.ensures.layout c.requires.form
+    c.requires.few in
     f.blank
 
 pub measure_over-requires-clause-settled : goal.measure_over-requires-clause-settled
@@ -26,8 +26,8 @@ measure_over-requires-clause-form g c =
     let u = root_of (definition_of c.args.def.now) in
     let k = kinds_of u in
     let v = value_of_ref c.args.v in
-    let h = c.roots_have_kinds.ensures.kinds _ _ c.parts_of-parts.ensures.means in
-    let f = from_shape (layout_of c.in_ok-blank.blank) k v c.in_ok-blank.ensures.layout h.0 h.1 c.requires.form c.requires.few in
+    let f = from_shape (layout_of c.in_ok-blank.blank) k v c.in_ok-blank.ensures.layout c.requires.form
+    c.requires.few in
     f.form
 
 pub measure_over-requires-clause-few : goal.measure_over-requires-clause-few
@@ -35,26 +35,17 @@ measure_over-requires-clause-few g c =
     let u = root_of (definition_of c.args.def.now) in
     let k = kinds_of u in
     let v = value_of_ref c.args.v in
-    let h = c.roots_have_kinds.ensures.kinds _ _ c.parts_of-parts.ensures.means in
-    let f = from_shape (layout_of c.in_ok-blank.blank) k v c.in_ok-blank.ensures.layout h.0 h.1 c.requires.form c.requires.few in
+    let f = from_shape (layout_of c.in_ok-blank.blank) k v c.in_ok-blank.ensures.layout c.requires.form
+    c.requires.few in
     f.few
-
-pub returns-clause-least : goal.returns-clause-least
-returns-clause-least g c =
-    let u = root_of (definition_of c.args.def.now) in
-    let k = kinds_of u in
-    let v = value_of_ref c.args.v in
-    let h = c.roots_have_kinds.ensures.kinds _ _ c.parts_of-parts.ensures.means in
-    let f = from_shape (layout_of c.in_ok-blank.blank) k v c.in_ok-blank.ensures.layout h.0 h.1 c.requires.form c.requires.few in
-    c.measure_over.ensures.least f.described
 
 pub returns-clause-kinds : goal.returns-clause-kinds
 returns-clause-kinds g c =
     let u = root_of (definition_of c.args.def.now) in
     let k = kinds_of u in
     let v = value_of_ref c.args.v in
-    let h = c.roots_have_kinds.ensures.kinds _ _ c.parts_of-parts.ensures.means in
-    let f = from_shape (layout_of c.in_ok-blank.blank) k v c.in_ok-blank.ensures.layout h.0 h.1 c.requires.form c.requires.few in
+    let f = from_shape (layout_of c.in_ok-blank.blank) k v c.in_ok-blank.ensures.layout c.requires.form
+    c.requires.few in
     IfOk-weaker c.measure_over.result _ _ (λ m e. e ∙ f.same_kinds) c.measure_over.ensures.kinds
 
 pub returns-clause-steps : goal.returns-clause-steps
@@ -62,6 +53,6 @@ returns-clause-steps g c =
     let u = root_of (definition_of c.args.def.now) in
     let k = kinds_of u in
     let v = value_of_ref c.args.v in
-    let h = c.roots_have_kinds.ensures.kinds _ _ c.parts_of-parts.ensures.means in
-    let f = from_shape (layout_of c.in_ok-blank.blank) k v c.in_ok-blank.ensures.layout h.0 h.1 c.requires.form c.requires.few in
+    let f = from_shape (layout_of c.in_ok-blank.blank) k v c.in_ok-blank.ensures.layout c.requires.form
+    c.requires.few in
     omega (arith, c.measure_over.ensures.steps, f.same_ranges)

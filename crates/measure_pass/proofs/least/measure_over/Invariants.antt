@@ -10,8 +10,10 @@ use Rattle.measure_pass.proofs.least.measure_over.Given as goal
 abbrev pub invariant-loop-layouts : goal.invariant-loop-layouts
 invariant-loop-layouts g l = record {
   settled : IsSettled l.layouts;
-  reached : InLoop (layout_of l.fn.blank) (layout_of l.layouts) (value_of_ref l.v) (listed l.ranges) l.fn.steps l.steps;
+  reached : InLoop (layout_of l.fn.blank) (layout_of l.layouts) (value_of_ref l.v) (listed l.ranges)
+      l.fn.steps l.steps;
 }
 
 abbrev pub decreases-loop-layouts : goal.decreases-loop-layouts
-decreases-loop-layouts g l = 29 * ranges (layout_of l.layouts).tree - distance_widths (layout_of l.layouts).tree
+decreases-loop-layouts g l = 29 * ranges (layout_of l.layouts).tree - distance_widths
+    (layout_of l.layouts).tree

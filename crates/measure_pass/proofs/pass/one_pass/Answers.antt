@@ -21,7 +21,9 @@ visit_part-requires-clause-ready g c =
     let es : c.bits.result ≡ stride (layout_of l).tree = c.bits.ensures.bits ∙ ap stride (root_at l) in
     let first = (c.bits.result + 7) / 8 in
     let e : first ≡ bytes_for (stride (layout_of l).tree) = ap (λ z. (z + 7) / 8) es in
-    root_ready l (value_of_ref c.args.v) first (passable (layout_of l) (value_of_ref c.args.v) c.requires.value c.layouts_are_described.ensures.bits) e (omega (arith, c.bits.type_inv))
+    root_ready l (value_of_ref c.args.v) first
+    (passable (layout_of l) (value_of_ref c.args.v) c.requires.value c.layouts_are_described.ensures.bits)
+    e (omega (arith, c.bits.type_inv))
 
 pub returns-then-is_settled-clause-layout : goal.returns-then-is_settled-clause-layout
 returns-then-is_settled-clause-layout g c =
@@ -30,7 +32,8 @@ returns-then-is_settled-clause-layout g c =
     let first = (c.bits.result + 7) / 8 in
     let e : first ≡ bytes_for (stride (layout_of l).tree) = ap (λ z. (z + 7) / 8) es in
     let mid = c.visit_part.new.layouts in
-    let p = settled_is l mid (value_of_ref c.args.v) first c.visit_part.result c.requires.settled e c.visit_part.ensures in
+    let p = settled_is l mid (value_of_ref c.args.v) first c.visit_part.result c.requires.settled e
+    c.visit_part.ensures in
     let r = c.is_settled.ensures.0 c.if-is_settled.true in
     sym r ∙ p
 
@@ -41,7 +44,8 @@ returns-then-is_settled-clause-rested g c =
     let first = (c.bits.result + 7) / 8 in
     let e : first ≡ bytes_for (stride (layout_of l).tree) = ap (λ z. (z + 7) / 8) es in
     let mid = c.visit_part.new.layouts in
-    let p = settled_is l mid (value_of_ref c.args.v) first c.visit_part.result c.requires.settled e c.visit_part.ensures in
+    let p = settled_is l mid (value_of_ref c.args.v) first c.visit_part.result c.requires.settled e
+    c.visit_part.ensures in
     let r = c.is_settled.ensures.0 c.if-is_settled.true in
     (λ h. ap (λ (d : Described). d.tree) (sym p ∙ r ∙ c.visit_part.ensures.same.layout), λ h. refl)
 
@@ -52,7 +56,8 @@ returns-clause-layout g c =
     let first = (c.bits.result + 7) / 8 in
     let e : first ≡ bytes_for (stride (layout_of l).tree) = ap (λ z. (z + 7) / 8) es in
     let mid = c.visit_part.new.layouts in
-    let p = settled_is l mid (value_of_ref c.args.v) first c.visit_part.result c.requires.settled e c.visit_part.ensures in
+    let p = settled_is l mid (value_of_ref c.args.v) first c.visit_part.result c.requires.settled e
+    c.visit_part.ensures in
     c.settle.ensures.layout ∙ p
 
 pub returns-clause-rested : goal.returns-clause-rested
@@ -62,10 +67,13 @@ returns-clause-rested g c =
     let first = (c.bits.result + 7) / 8 in
     let e : first ≡ bytes_for (stride (layout_of l).tree) = ap (λ z. (z + 7) / 8) es in
     let mid = c.visit_part.new.layouts in
-    let p = settled_is l mid (value_of_ref c.args.v) first c.visit_part.result c.requires.settled e c.visit_part.ensures in
+    let p = settled_is l mid (value_of_ref c.args.v) first c.visit_part.result c.requires.settled e
+    c.visit_part.ensures in
     let no : c.is_settled.result ≡ false = c.if-is_settled.false in (
       λ h. absurd cc,
       λ h.
-          let same : passed (layout_of l) (value_of_ref c.args.v) ≡ layout_of l = ap (λ x. described (layout_of l).version (layout_of l).relaxed x) h in
-          let y = c.is_settled.ensures.1 (p ∙ same ∙ sym c.visit_part.ensures.same.layout) in let z : true ≡ false = sym y ∙ no in absurd cc,
+          let same : passed (layout_of l) (value_of_ref c.args.v)
+          ≡ layout_of l = ap (λ x. described (layout_of l).version (layout_of l).relaxed x) h in
+          let y = c.is_settled.ensures.1 (p ∙ same ∙ sym c.visit_part.ensures.same.layout) in let z : true
+          ≡ false = sym y ∙ no in absurd cc,
     )

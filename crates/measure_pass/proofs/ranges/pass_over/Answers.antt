@@ -1,4 +1,5 @@
-use Rattle.std.proofs.Common.{arith, ◌≡◌, ◌+◌, ◌/◌, ◌<◌, true, false, length, take, drop, refl, ap, sym, ◌∙◌, subst}
+use Rattle.std.proofs.Common.{arith, ◌≡◌, ◌+◌, ◌/◌, ◌<◌, true, false, length, take, drop, refl, ap, sym, ◌∙◌}
+use Rattle.std.proofs.Common.{subst}
 use Rattle.frozen_model.specs.Layouts.{stride, Described, described}
 use Rattle.frozen_model.specs.Packing.{bytes_for}
 use Rattle.layout_tree.specs.Nodes.{layout_of, noted_in}
@@ -16,7 +17,8 @@ bits-requires g c = root_node (noted_in c.args.layouts.now)
 pub run_ranges-end-requires-clause-some : goal.run_ranges-end-requires-clause-some
 run_ranges-end-requires-clause-some g c =
     let s = c.requires.value in
-    subst (λ r. 0 < length r) (sym c.deref_mut.ensures.value) (some_first (layout_of c.args.layouts.now).tree (listed c.args.ranges.now) s.value s.are)
+    subst (λ r. 0 < length r) (sym c.deref_mut.ensures.value)
+    (some_first (layout_of c.args.layouts.now).tree (listed c.args.ranges.now) s.value s.are)
 
 pub run_ranges-end-requires-clause-runnable : goal.run_ranges-end-requires-clause-runnable
 run_ranges-end-requires-clause-runnable g c =
@@ -38,14 +40,22 @@ returns-then-is_settled-clause-passed g c v a =
     let mid = c.run_ranges-end.new.layouts in
     let small = small_whole (layout_of l) v a.form a.few c.layouts_are_described.ensures.bits in
     let tree = (layout_of l).tree in
-    let ran_on = subst (λ r. run tree (take 1 r) first (noted_in l) (drop 1 r) ≡ ran c.run_ranges-end.new.spots c.run_ranges-end.result (noted_in mid)) c.deref_mut.ensures.value c.run_ranges-end.ensures.ran in
-    let f = finished l mid (listed c.args.ranges.now) c.run_ranges-end.new.spots v first c.run_ranges-end.result c.requires.settled small e a c.run_ranges-end.ensures.same ran_on in
-    let back = put_back (listed c.args.ranges.now) c.run_ranges-end.new.spots c.args.ranges.now.spots.len (c.run_ranges-end.auto.spots ∙ ap length c.deref_mut.ensures.value) (omega (arith, c.args.ranges.now.spots.ok.0)) in
+    let ran_on = subst (λ r. run tree (take 1 r) first (noted_in l) (drop 1 r)
+    ≡ ran c.run_ranges-end.new.spots c.run_ranges-end.result (noted_in mid)) c.deref_mut.ensures.value
+    c.run_ranges-end.ensures.ran in
+    let f = finished l mid (listed c.args.ranges.now) c.run_ranges-end.new.spots v first
+    c.run_ranges-end.result c.requires.settled small e a c.run_ranges-end.ensures.same ran_on in
+    let back = put_back (listed c.args.ranges.now) c.run_ranges-end.new.spots c.args.ranges.now.spots.len
+    (c.run_ranges-end.auto.spots ∙ ap length c.deref_mut.ensures.value)
+    (omega (arith, c.args.ranges.now.spots.ok.0)) in
     let r = c.is_settled.ensures.0 c.if-is_settled.true in
     record {
       layout = sym r ∙ f.passes;
       starts = back ∙ f.placed;
-      rested = (λ h. ap (λ (d : Described). d.tree) (sym f.passes ∙ r ∙ c.run_ranges-end.ensures.same.layout), λ h. refl);
+      rested = (
+        λ h. ap (λ (d : Described). d.tree) (sym f.passes ∙ r ∙ c.run_ranges-end.ensures.same.layout),
+        λ h. refl,
+      );
     }
 
 pub returns-clause-passed : goal.returns-clause-passed
@@ -57,9 +67,14 @@ returns-clause-passed g c v a =
     let mid = c.run_ranges-end.new.layouts in
     let small = small_whole (layout_of l) v a.form a.few c.layouts_are_described.ensures.bits in
     let tree = (layout_of l).tree in
-    let ran_on = subst (λ r. run tree (take 1 r) first (noted_in l) (drop 1 r) ≡ ran c.run_ranges-end.new.spots c.run_ranges-end.result (noted_in mid)) c.deref_mut.ensures.value c.run_ranges-end.ensures.ran in
-    let f = finished l mid (listed c.args.ranges.now) c.run_ranges-end.new.spots v first c.run_ranges-end.result c.requires.settled small e a c.run_ranges-end.ensures.same ran_on in
-    let back = put_back (listed c.args.ranges.now) c.run_ranges-end.new.spots c.args.ranges.now.spots.len (c.run_ranges-end.auto.spots ∙ ap length c.deref_mut.ensures.value) (omega (arith, c.args.ranges.now.spots.ok.0)) in
+    let ran_on = subst (λ r. run tree (take 1 r) first (noted_in l) (drop 1 r)
+    ≡ ran c.run_ranges-end.new.spots c.run_ranges-end.result (noted_in mid)) c.deref_mut.ensures.value
+    c.run_ranges-end.ensures.ran in
+    let f = finished l mid (listed c.args.ranges.now) c.run_ranges-end.new.spots v first
+    c.run_ranges-end.result c.requires.settled small e a c.run_ranges-end.ensures.same ran_on in
+    let back = put_back (listed c.args.ranges.now) c.run_ranges-end.new.spots c.args.ranges.now.spots.len
+    (c.run_ranges-end.auto.spots ∙ ap length c.deref_mut.ensures.value)
+    (omega (arith, c.args.ranges.now.spots.ok.0)) in
     let no : c.is_settled.result ≡ false = c.if-is_settled.false in
     record {
       layout = c.settle.ensures.layout ∙ f.passes;
@@ -67,8 +82,10 @@ returns-clause-passed g c v a =
       rested = (
         λ h. absurd cc,
         λ h.
-            let same : passed (layout_of l) v ≡ layout_of l = ap (λ x. described (layout_of l).version (layout_of l).relaxed x) h in
-            let y = c.is_settled.ensures.1 (f.passes ∙ same ∙ sym c.run_ranges-end.ensures.same.layout) in let z : true ≡ false = sym y ∙ no in absurd cc,
+            let same : passed (layout_of l) v
+            ≡ layout_of l = ap (λ x. described (layout_of l).version (layout_of l).relaxed x) h in
+            let y = c.is_settled.ensures.1 (f.passes ∙ same ∙ sym c.run_ranges-end.ensures.same.layout) in
+            let z : true ≡ false = sym y ∙ no in absurd cc,
       );
     }
 
@@ -81,8 +98,11 @@ returns-then-is_settled-clause-ends g c v a =
     let mid = c.run_ranges-end.new.layouts in
     let small = small_whole (layout_of l) v a.form a.few c.layouts_are_described.ensures.bits in
     let tree = (layout_of l).tree in
-    let ran_on = subst (λ r. run tree (take 1 r) first (noted_in l) (drop 1 r) ≡ ran c.run_ranges-end.new.spots c.run_ranges-end.result (noted_in mid)) c.deref_mut.ensures.value c.run_ranges-end.ensures.ran in
-    (finished l mid (listed c.args.ranges.now) c.run_ranges-end.new.spots v first c.run_ranges-end.result c.requires.settled small e a c.run_ranges-end.ensures.same ran_on).ends
+    let ran_on = subst (λ r. run tree (take 1 r) first (noted_in l) (drop 1 r)
+    ≡ ran c.run_ranges-end.new.spots c.run_ranges-end.result (noted_in mid)) c.deref_mut.ensures.value
+    c.run_ranges-end.ensures.ran in
+    (finished l mid (listed c.args.ranges.now) c.run_ranges-end.new.spots v first c.run_ranges-end.result
+    c.requires.settled small e a c.run_ranges-end.ensures.same ran_on).ends
 
 pub returns-clause-ends : goal.returns-clause-ends
 returns-clause-ends g c v a =
@@ -93,5 +113,8 @@ returns-clause-ends g c v a =
     let mid = c.run_ranges-end.new.layouts in
     let small = small_whole (layout_of l) v a.form a.few c.layouts_are_described.ensures.bits in
     let tree = (layout_of l).tree in
-    let ran_on = subst (λ r. run tree (take 1 r) first (noted_in l) (drop 1 r) ≡ ran c.run_ranges-end.new.spots c.run_ranges-end.result (noted_in mid)) c.deref_mut.ensures.value c.run_ranges-end.ensures.ran in
-    (finished l mid (listed c.args.ranges.now) c.run_ranges-end.new.spots v first c.run_ranges-end.result c.requires.settled small e a c.run_ranges-end.ensures.same ran_on).ends
+    let ran_on = subst (λ r. run tree (take 1 r) first (noted_in l) (drop 1 r)
+    ≡ ran c.run_ranges-end.new.spots c.run_ranges-end.result (noted_in mid)) c.deref_mut.ensures.value
+    c.run_ranges-end.ensures.ran in
+    (finished l mid (listed c.args.ranges.now) c.run_ranges-end.new.spots v first c.run_ranges-end.result
+    c.requires.settled small e a c.run_ranges-end.ensures.same ran_on).ends

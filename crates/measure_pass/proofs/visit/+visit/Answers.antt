@@ -3,7 +3,7 @@ use Rattle.std.proofs.lemmas.Int.{to_z-of_z}
 use mir.Val.{SFits}
 use Rattle.frozen_model.specs.Packing.{bytes_for}
 use Rattle.frozen_model.specs.Trees.{nodes, Integer, greatest}
-use Rattle.frozen_model.specs.Values.{Value, count, Truth, Number, Of}
+use Rattle.frozen_model.specs.Values.{Value, count, nth, Truth, Number, Of}
 use Rattle.frozen_model.specs.Layouts.{Layout, stride, need}
 use Rattle.frozen_laws.specs.Everywhere.{RangeFits}
 use Rattle.layout_tree.specs.Nodes.{at, noted_in}
@@ -12,76 +12,129 @@ use Rattle.layout_tree.proofs.Numbers.{number_of_part}
 use Rattle.typed_tree.specs.Spots.{pair}
 use Rattle.layout_tree.specs.Listing.{sub, tree_of, version_of}
 use Rattle.layout_tree.proofs.Children.{Child, item_child, inner_child, node_small}
-use Rattle.layout_tree.proofs.Readings.{same_nodes}
 use Rattle.typed_tree.specs.References.{value_of_ref}
 use Rattle.typed_tree.specs.Parts.{items_of, fields_of}
 use Rattle.measure_pass.specs.Growing.{Same, Ready, EachReady, Visited, EachVisited}
 use Rattle.measure_pass.proofs.Stays.{same_child}
-use Rattle.measure_pass.proofs.Left.{fields_start, fields_step, fields_end, fields_over, pair_first, pair_second, items_start, items_step, items_end}
-use Rattle.measure_pass.proofs.Arms.{leaf_tip, flag_here, leaf_at, flag_needs, integer_at, visited_leaf, visited_absent, present_at, visited_present, bytes_at, bytes_range, visited_bytes, items_at, items_range, items_ready, visited_items, items_next, block_is}
+use Rattle.layout_tree.proofs.Left.{items_here, items_next, items_end, fields_more, fields_here, fields_next}
+use Rattle.layout_tree.proofs.Left.{fields_end, fields_over}
+use Rattle.measure_pass.proofs.Left.{items_unvisited, item_ready, item_visited, items_visited}
+use Rattle.measure_pass.proofs.Left.{fields_unvisited, field_ready, field_visited, fields_visited}
+use Rattle.measure_pass.proofs.Arms.{leaf_tip, flag_here, leaf_at, flag_needs, integer_at, visited_leaf}
+use Rattle.measure_pass.proofs.Arms.{visited_absent, present_at, visited_present, bytes_at, bytes_range}
+use Rattle.measure_pass.proofs.Arms.{visited_bytes, items_at, items_range, items_ready, visited_items}
+use Rattle.measure_pass.proofs.Arms.{items_end_at, block_is}
 use Rattle.measure_pass.proofs.visit.+visit.Goals as goal
 use Rattle.typed_tree.specs.Heights.{height}
-use Rattle.typed_tree.proofs.Forms.{height_fields, height_items, height_nth, items_form, items_kind, map_is, map_kind, row_is, row_kind}
+use Rattle.typed_tree.proofs.Forms.{height_fields, height_items, height_nth, items_form, items_kind, map_is}
+use Rattle.typed_tree.proofs.Forms.{map_kind, row_is, row_kind}
 
 pub visit_fields-loop-child-init : goal.visit_fields-loop-child-init
 visit_fields-loop-child-init t c =
     let n = c.args.node in
-    fields_start c.args.layouts.now n (value_of_ref c.args.v) c.args.from (n + 1) c.past-end.result c.requires.record (record { node = c.requires.node; is = refl }) c.requires.ready (c.past-end.ensures.part c.requires.node) refl
+    fields_unvisited c.args.layouts.now n (n + 1) c.past-end.result (value_of_ref c.args.v) c.args.from
+    c.requires.record c.requires.node c.requires.ready (c.past-end.ensures.part c.requires.node) refl
 
 pub visit_fields-past-end-requires : goal.visit_fields-past-end-requires
-visit_fields-past-end-requires t c = number_of_part (tree_of c.args.layouts.now.nodes.items) c.args.node c.requires.node
+visit_fields-past-end-requires t c = number_of_part (tree_of c.args.layouts.now.nodes.items) c.args.node
+    c.requires.node
 
 pub visit_fields-past-past-requires : goal.visit_fields-past-past-requires
 visit_fields-past-past-requires t c =
     let l = c.args.layouts.now in
     let k = c.loop-child in
-    let st = fields_step (at l c.args.node) (value_of_ref c.args.v) l k.layouts c.args.node c.args.from k.next k.child c.past-end.result k.i k.invariant c.loop-child-test.true in
-    number_of_part (noted_in k.layouts) k.child st.node.node
+    let lt = c.loop-child-test.true in
+    let h = fields_here k.invariant lt in
+    let ch : Child (noted_in k.layouts) (version_of k.layouts.version) k.child (at l k.child) = same_child
+    h.holds.same (record {
+      node = h.node;
+      is = refl;
+    }) in
+    number_of_part (noted_in k.layouts) k.child ch.node
 
 pub visit_fields-field_at-requires : goal.visit_fields-field_at-requires
-visit_fields-field_at-requires t c =
-    let l = c.args.layouts.now in
-    let k = c.loop-child in
-    (fields_step (at l c.args.node) (value_of_ref c.args.v) l k.layouts c.args.node c.args.from k.next k.child c.past-end.result k.i k.invariant c.loop-child-test.true).some
+visit_fields-field_at-requires t c = (fields_here c.loop-child.invariant c.loop-child-test.true).some
 
 pub visit_fields-visit_part-next-requires : goal.visit_fields-visit_part-next-requires
 visit_fields-visit_part-next-requires t c =
     let l = c.args.layouts.now in
     let k = c.loop-child in
+    let lt = c.loop-child-test.true in
+    let h = fields_here k.invariant lt in
+    let ch : Child (noted_in k.layouts) (version_of k.layouts.version) k.child (at l k.child) = same_child
+    h.holds.same (record {
+      node = h.node;
+      is = refl;
+    }) in
     let u = value_of_ref c.args.v in
     let y = value_of_ref c.field_at.result in
-    let st = fields_step (at l c.args.node) u l k.layouts c.args.node c.args.from k.next k.child c.past-end.result k.i k.invariant c.loop-child-test.true in (
-      omega (arith, c.decreases, height_fields u c.requires.record, height_nth (fields_of u) k.i, ap height c.field_at.ensures),
-      (st.node.node, subst (λ (z : Layout). Ready z y k.next) (sym st.node.is) (st.ready y c.field_at.ensures)),
+    let r = field_ready h.form h.holds in (
+      omega (
+        arith,
+        c.decreases,
+        height_fields u c.requires.record,
+        height_nth (fields_of u) k.i,
+        ap height
+            c.field_at.ensures,
+      ),
+      (
+        ch.node,
+        subst (λ (z : Layout). Ready z y k.next) (sym ch.is)
+            (subst (λ (z : Value). Ready (at l k.child) z k.next) (sym c.field_at.ensures) r),
+      ),
     )
 
 pub visit_fields-loop-child-preserved : goal.visit_fields-loop-child-preserved
 visit_fields-loop-child-preserved t c =
     let l = c.args.layouts.now in
     let k = c.loop-child in
-    let u = value_of_ref c.args.v in
+    let lt = c.loop-child-test.true in
+    let h = fields_here k.invariant lt in
+    let ch : Child (noted_in k.layouts) (version_of k.layouts.version) k.child (at l k.child) = same_child
+    h.holds.same (record {
+      node = h.node;
+      is = refl;
+    }) in
     let y = value_of_ref c.field_at.result in
-    let v = version_of l.version in
     let mid = c.visit_part-next.new.layouts in
-    let st = fields_step (at l c.args.node) u l k.layouts c.args.node c.args.from k.next k.child c.past-end.result k.i k.invariant c.loop-child-test.true in
-    st.next y c.field_at.ensures mid c.visit_part-next.result c.past-past.result (subst (λ (z : Layout). Visited z y k.layouts mid k.child k.next c.visit_part-next.result) st.node.is c.visit_part-next.ensures)
-    (c.past-past.ensures.part st.node.node ∙ ap (λ (z : Layout). k.child + nodes z) st.node.is ∙ ap (λ z. k.child + z) (same_nodes v st.here))
+    let next = c.visit_part-next.result in
+    let e = c.past-past.ensures.part ch.node ∙ ap (λ (z : Layout). k.child + nodes z) ch.is in
+    let w = subst (λ (z : Value). Visited (at l k.child) z k.layouts mid k.child k.next next)
+    c.field_at.ensures (subst (λ (z : Layout). Visited z y k.layouts mid k.child k.next next) ch.is
+    c.visit_part-next.ensures) in
+    fields_next c.past-past.result k.invariant lt e (λ id ms vs o os r. field_visited e w r)
 
-pub visit_fields-returns : goal.visit_fields-returns
-visit_fields-returns t c =
+pub visit_fields-overflow_add-i : goal.visit_fields-overflow_add-i
+visit_fields-overflow_add-i t c =
+    let f : c.loop-child.child < c.past-end.result = c.loop-child-test.true in
+    omega (arith, c.loop-child.invariant.holds.passed, f, c.past-end.type_inv)
+
+pub visit_fields-loop-child-smaller : goal.visit_fields-loop-child-smaller
+visit_fields-loop-child-smaller t c =
     let l = c.args.layouts.now in
     let k = c.loop-child in
-    fields_end (at l c.args.node) (value_of_ref c.args.v) l k.layouts c.args.node c.args.from k.next k.child c.past-end.result k.i k.invariant c.loop-child-test.false
+    let h = fields_here k.invariant c.loop-child-test.true in
+    let ch : Child (noted_in k.layouts) (version_of k.layouts.version) k.child (at l k.child) =
+    same_child h.holds.same (record { node = h.node; is = refl }) in
+    omega (arith, c.past-past.ensures.part ch.node, ap (λ (z : Layout). nodes z) ch.is, h.past, h.grows)
+
+pub visit_fields-returns : goal.visit_fields-returns
+visit_fields-returns t c = fields_visited (fields_end c.loop-child.invariant c.loop-child-test.false)
 
 pub visit_items-loop-i-init : goal.visit_items-loop-i-init
 visit_items-loop-i-init t c =
     let l = c.args.layouts.now in
-    items_start (item_of (at l c.args.node)) (items_of (value_of_ref c.args.v)) l (c.args.node + 3) c.args.from c.requires.ready
+    items_unvisited (item_of (at l c.args.node)) (items_of (value_of_ref c.args.v)) l (c.args.node + 3)
+    c.args.from c.requires.ready
 
 pub visit_items-overflow_add-node : goal.visit_items-overflow_add-node
 visit_items-overflow_add-node t c =
     let l = c.args.layouts.now in
-    omega (arith, node_small l.version l.nodes.items (sub (tree_of l.nodes.items) c.args.node) c.args.node l.listing l.sound c.requires.node)
+    omega (
+      arith,
+      node_small l.version l.nodes.items (sub (tree_of l.nodes.items) c.args.node) c.args.node
+          l.listing l.sound c.requires.node,
+    )
 
 pub visit_items-visit_part-next-requires : goal.visit_items-visit_part-next-requires
 visit_items-visit_part-next-requires t c =
@@ -92,10 +145,25 @@ visit_items-visit_part-next-requires t c =
     let k = c.loop-i in
     let u = value_of_ref c.item.result in
     let lt : k.i < count all = omega (arith, c.len-n.ensures) in
-    let st = items_step m all l k.layouts (n + 3) c.args.from k.next k.i u k.invariant lt c.item.ensures in
-    let ch : Child (noted_in k.layouts) (version_of k.layouts.version) (n + 3) m = same_child k.invariant.same (item_child (tree_of l.nodes.items) (version_of l.version) n c.requires.node c.requires.holder) in (
-      omega (arith, c.decreases, height_items (value_of_ref c.args.v) (row_is (value_of_ref c.args.v) c.requires.row), height_nth all k.i, ap height c.item.ensures),
-      (ch.node, subst (λ (z : Layout). Ready z u k.next) (sym ch.is) st.ready),
+    let e : u ≡ nth all k.i = c.item.ensures in
+    let ch : Child (noted_in k.layouts) (version_of k.layouts.version) (n + 3) m = same_child
+    k.invariant.holds.same (item_child (tree_of l.nodes.items) (version_of l.version) n c.requires.node
+    c.requires.holder) in
+    let h = items_here k.invariant lt in
+    let r = item_ready h.form h.forms h.holds in (
+      omega (
+        arith,
+        c.decreases,
+        height_items (value_of_ref c.args.v)
+            (row_is (value_of_ref c.args.v) c.requires.row),
+        height_nth all k.i,
+        ap height e,
+      ),
+      (
+        ch.node,
+        subst (λ (z : Layout). Ready z u k.next) (sym ch.is)
+            (subst (λ (y : Value). Ready m y k.next) (sym e) r),
+      ),
     )
 
 pub visit_items-loop-i-preserved : goal.visit_items-loop-i-preserved
@@ -106,29 +174,37 @@ visit_items-loop-i-preserved t c =
     let all = items_of (value_of_ref c.args.v) in
     let k = c.loop-i in
     let u = value_of_ref c.item.result in
-    let mid = c.visit_part-next.new.layouts in
     let lt : k.i < count all = omega (arith, c.len-n.ensures) in
-    let st = items_step m all l k.layouts (n + 3) c.args.from k.next k.i u k.invariant lt c.item.ensures in
-    let ch : Child (noted_in k.layouts) (version_of k.layouts.version) (n + 3) m = same_child k.invariant.same (item_child (tree_of l.nodes.items) (version_of l.version) n c.requires.node c.requires.holder) in
-    st.next mid c.visit_part-next.result (subst (λ (z : Layout). Visited z u k.layouts mid (n + 3) k.next c.visit_part-next.result) ch.is c.visit_part-next.ensures)
+    let e : u ≡ nth all k.i = c.item.ensures in
+    let ch : Child (noted_in k.layouts) (version_of k.layouts.version) (n + 3) m = same_child
+    k.invariant.holds.same (item_child (tree_of l.nodes.items) (version_of l.version) n c.requires.node
+    c.requires.holder) in
+    let mid = c.visit_part-next.new.layouts in
+    let next = c.visit_part-next.result in
+    let w = subst (λ (y : Value). Visited m y k.layouts mid (n + 3) k.next next) e
+    (subst (λ (z : Layout). Visited z u k.layouts mid (n + 3) k.next next) ch.is
+    c.visit_part-next.ensures) in
+    items_next k.invariant lt (λ vs o os r. item_visited o os w r)
 
 pub visit_items-returns : goal.visit_items-returns
 visit_items-returns t c =
-    let l = c.args.layouts.now in
-    let all = items_of (value_of_ref c.args.v) in
-    let k = c.loop-i in
-    let e : k.i ≡ count all = omega (arith, c.len-n.ensures) in
-    items_end (item_of (at l c.args.node)) all l k.layouts (c.args.node + 3) c.args.from k.next k.i k.invariant e
+    let e : c.loop-i.i ≡ count (items_of (value_of_ref c.args.v)) = omega (arith, c.len-n.ensures) in
+    items_visited (items_end c.loop-i.invariant e)
 
 pub visit_pairs-loop-i-init : goal.visit_pairs-loop-i-init
 visit_pairs-loop-i-init t c =
     let l = c.args.layouts.now in
-    items_start (item_of (at l c.args.node)) (items_of (value_of_ref c.args.v)) l (c.args.node + 3) c.args.from c.requires.ready
+    items_unvisited (item_of (at l c.args.node)) (items_of (value_of_ref c.args.v)) l (c.args.node + 3)
+    c.args.from c.requires.ready
 
 pub visit_pairs-overflow_add-node : goal.visit_pairs-overflow_add-node
 visit_pairs-overflow_add-node t c =
     let l = c.args.layouts.now in
-    omega (arith, node_small l.version l.nodes.items (sub (tree_of l.nodes.items) c.args.node) c.args.node l.listing l.sound c.requires.node)
+    omega (
+      arith,
+      node_small l.version l.nodes.items (sub (tree_of l.nodes.items) c.args.node) c.args.node
+          l.listing l.sound c.requires.node,
+    )
 
 pub visit_pairs-visit_pair-next-requires : goal.visit_pairs-visit_pair-next-requires
 visit_pairs-visit_pair-next-requires t c =
@@ -139,10 +215,25 @@ visit_pairs-visit_pair-next-requires t c =
     let k = c.loop-i in
     let u = pair (value_of_ref c.entry.result.0) (value_of_ref c.entry.result.1) in
     let lt : k.i < count all = omega (arith, c.len-n.ensures) in
-    let st = items_step m all l k.layouts (n + 3) c.args.from k.next k.i u k.invariant lt (sym c.entry.ensures) in
-    let ch : Child (noted_in k.layouts) (version_of k.layouts.version) (n + 3) m = same_child k.invariant.same (item_child (tree_of l.nodes.items) (version_of l.version) n c.requires.node c.requires.holder) in (
-      omega (arith, c.decreases, height_items (value_of_ref c.args.v) (map_is (value_of_ref c.args.v) c.requires.map), height_nth all k.i, ap height (sym c.entry.ensures)),
-      (ch.node, subst (λ (z : Layout). Ready z u k.next) (sym ch.is) st.ready),
+    let e : u ≡ nth all k.i = sym c.entry.ensures in
+    let ch : Child (noted_in k.layouts) (version_of k.layouts.version) (n + 3) m = same_child
+    k.invariant.holds.same (item_child (tree_of l.nodes.items) (version_of l.version) n c.requires.node
+    c.requires.holder) in
+    let h = items_here k.invariant lt in
+    let r = item_ready h.form h.forms h.holds in (
+      omega (
+        arith,
+        c.decreases,
+        height_items (value_of_ref c.args.v)
+            (map_is (value_of_ref c.args.v) c.requires.map),
+        height_nth all k.i,
+        ap height e,
+      ),
+      (
+        ch.node,
+        subst (λ (z : Layout). Ready z u k.next) (sym ch.is)
+            (subst (λ (y : Value). Ready m y k.next) (sym e) r),
+      ),
     )
 
 pub visit_pairs-loop-i-preserved : goal.visit_pairs-loop-i-preserved
@@ -153,82 +244,113 @@ visit_pairs-loop-i-preserved t c =
     let all = items_of (value_of_ref c.args.v) in
     let k = c.loop-i in
     let u = pair (value_of_ref c.entry.result.0) (value_of_ref c.entry.result.1) in
-    let mid = c.visit_pair-next.new.layouts in
     let lt : k.i < count all = omega (arith, c.len-n.ensures) in
-    let st = items_step m all l k.layouts (n + 3) c.args.from k.next k.i u k.invariant lt (sym c.entry.ensures) in
-    let ch : Child (noted_in k.layouts) (version_of k.layouts.version) (n + 3) m = same_child k.invariant.same (item_child (tree_of l.nodes.items) (version_of l.version) n c.requires.node c.requires.holder) in
-    st.next mid c.visit_pair-next.result (subst (λ (z : Layout). Visited z u k.layouts mid (n + 3) k.next c.visit_pair-next.result) ch.is c.visit_pair-next.ensures)
+    let e : u ≡ nth all k.i = sym c.entry.ensures in
+    let ch : Child (noted_in k.layouts) (version_of k.layouts.version) (n + 3) m = same_child
+    k.invariant.holds.same (item_child (tree_of l.nodes.items) (version_of l.version) n c.requires.node
+    c.requires.holder) in
+    let mid = c.visit_pair-next.new.layouts in
+    let next = c.visit_pair-next.result in
+    let w = subst (λ (y : Value). Visited m y k.layouts mid (n + 3) k.next next) e
+    (subst (λ (z : Layout). Visited z u k.layouts mid (n + 3) k.next next) ch.is
+    c.visit_pair-next.ensures) in
+    items_next k.invariant lt (λ vs o os r. item_visited o os w r)
 
 pub visit_pairs-returns : goal.visit_pairs-returns
 visit_pairs-returns t c =
-    let l = c.args.layouts.now in
-    let all = items_of (value_of_ref c.args.v) in
-    let k = c.loop-i in
-    let e : k.i ≡ count all = omega (arith, c.len-n.ensures) in
-    items_end (item_of (at l c.args.node)) all l k.layouts (c.args.node + 3) c.args.from k.next k.i k.invariant e
+    let e : c.loop-i.i ≡ count (items_of (value_of_ref c.args.v)) = omega (arith, c.len-n.ensures) in
+    items_visited (items_end c.loop-i.invariant e)
 
 pub visit_pair-overflow_add-first : goal.visit_pair-overflow_add-first
 visit_pair-overflow_add-first t c =
     let l = c.args.layouts.now in
-    omega (arith, node_small l.version l.nodes.items (sub (tree_of l.nodes.items) c.args.node) c.args.node l.listing l.sound c.requires.node)
+    omega (
+      arith,
+      node_small l.version l.nodes.items (sub (tree_of l.nodes.items) c.args.node) c.args.node
+          l.listing l.sound c.requires.node,
+    )
 
 pub visit_pair-past-second-requires : goal.visit_pair-past-second-requires
 visit_pair-past-second-requires t c =
     let l = c.args.layouts.now in
     let n = c.args.node in
-    let v = version_of l.version in
-    let key = value_of_ref c.args.key in
-    let value = value_of_ref c.args.value in
-    let one = pair_first l n key value c.args.from (record { node = c.requires.node; is = refl }) c.requires.ready in
-    number_of_part (noted_in l) (n + 1) one.node.node
+    let u = pair (value_of_ref c.args.key) (value_of_ref c.args.value) in
+    let start = fields_unvisited l n (n + 1) (n + nodes (at l n)) u c.args.from tt c.requires.node
+    c.requires.ready refl refl in
+    let some = fields_more start (omega arith) in
+    let one = fields_here start some in
+    number_of_part (noted_in l) (n + 1) one.node
 
 pub visit_pair-visit_part-next-requires : goal.visit_pair-visit_part-next-requires
 visit_pair-visit_part-next-requires t c =
     let l = c.args.layouts.now in
     let n = c.args.node in
-    let v = version_of l.version in
-    let key = value_of_ref c.args.key in
-    let value = value_of_ref c.args.value in
-    let one = pair_first l n key value c.args.from (record { node = c.requires.node; is = refl }) c.requires.ready in
-    (omega (arith, c.decreases), (one.node.node, subst (λ (z : Layout). Ready z key c.args.from) (sym one.node.is) (one.ready key refl)))
+    let u = pair (value_of_ref c.args.key) (value_of_ref c.args.value) in
+    let start = fields_unvisited l n (n + 1) (n + nodes (at l n)) u c.args.from tt c.requires.node
+    c.requires.ready refl refl in
+    let some = fields_more start (omega arith) in
+    let one = fields_here start some in
+    (omega (arith, c.decreases), (one.node, field_ready one.form one.holds))
 
 pub visit_pair-visit_part-requires : goal.visit_pair-visit_part-requires
 visit_pair-visit_part-requires t c =
     let l = c.args.layouts.now in
     let n = c.args.node in
-    let v = version_of l.version in
-    let key = value_of_ref c.args.key in
-    let value = value_of_ref c.args.value in
-    let one = pair_first l n key value c.args.from (record { node = c.requires.node; is = refl }) c.requires.ready in
+    let u = pair (value_of_ref c.args.key) (value_of_ref c.args.value) in
+    let start = fields_unvisited l n (n + 1) (n + nodes (at l n)) u c.args.from tt c.requires.node
+    c.requires.ready refl refl in
+    let some = fields_more start (omega arith) in
+    let one = fields_here start some in
     let mid = c.visit_part-next.new.layouts in
     let next = c.visit_part-next.result in
     let second = c.past-second.result in
-    let w = subst (λ (z : Layout). Visited z key l mid (n + 1) c.args.from next) one.node.is c.visit_part-next.ensures in
-    let es : second ≡ n + 1 + nodes one.here = c.past-second.ensures.part one.node.node ∙ ap (λ (z : Layout). n + 1 + nodes z) one.node.is ∙ ap (λ z. n + 1 + z) (same_nodes v one.here) in
-    let left = one.next key refl mid next second w es in
-    let two = pair_second (at l n) key value l mid n c.args.from next second (n + nodes (at l n)) left in
-    (omega (arith, c.decreases), (two.node.node, subst (λ (z : Layout). Ready z value next) (sym two.node.is) (two.ready value refl)))
+    let e = c.past-second.ensures.part one.node in
+    let later = fields_next second start some e
+    (λ id ms vs o os r. field_visited e c.visit_part-next.ensures r) in
+    let more = fields_more later (omega arith) in
+    let two = fields_here later more in
+    let ch : Child (noted_in mid) (version_of mid.version) second (at l second) = same_child two.holds.same
+    (record {
+      node = two.node;
+      is = refl;
+    }) in
+    let value = value_of_ref c.args.value in (
+      omega (arith, c.decreases),
+      (
+        ch.node,
+        subst (λ (z : Layout). Ready z value next) (sym ch.is)
+            (field_ready two.form two.holds),
+      ),
+    )
 
 pub visit_pair-returns : goal.visit_pair-returns
 visit_pair-returns t c =
     let l = c.args.layouts.now in
     let n = c.args.node in
-    let v = version_of l.version in
-    let key = value_of_ref c.args.key in
-    let value = value_of_ref c.args.value in
-    let one = pair_first l n key value c.args.from (record { node = c.requires.node; is = refl }) c.requires.ready in
+    let u = pair (value_of_ref c.args.key) (value_of_ref c.args.value) in
+    let start = fields_unvisited l n (n + 1) (n + nodes (at l n)) u c.args.from tt c.requires.node
+    c.requires.ready refl refl in
+    let some = fields_more start (omega arith) in
+    let one = fields_here start some in
     let mid = c.visit_part-next.new.layouts in
     let next = c.visit_part-next.result in
     let second = c.past-second.result in
-    let w = subst (λ (z : Layout). Visited z key l mid (n + 1) c.args.from next) one.node.is c.visit_part-next.ensures in
-    let es : second ≡ n + 1 + nodes one.here = c.past-second.ensures.part one.node.node ∙ ap (λ (z : Layout). n + 1 + nodes z) one.node.is ∙ ap (λ z. n + 1 + z) (same_nodes v one.here) in
-    let left = one.next key refl mid next second w es in
-    let two = pair_second (at l n) key value l mid n c.args.from next second (n + nodes (at l n)) left in
-    let new = c.visit_part.new.layouts in
-    let end = c.visit_part.result in
-    let w2 = subst (λ (z : Layout). Visited z value mid new second next end) two.node.is c.visit_part.ensures in
-    let last = two.next value refl new end (second + nodes two.here) w2 refl in
-    fields_over (at l n) (pair key value) l new n c.args.from end (second + nodes two.here) (n + nodes (at l n)) 2 last refl
+    let e = c.past-second.ensures.part one.node in
+    let later = fields_next second start some e
+    (λ id ms vs o os r. field_visited e c.visit_part-next.ensures r) in
+    let more = fields_more later (omega arith) in
+    let two = fields_here later more in
+    let ch : Child (noted_in mid) (version_of mid.version) second (at l second) = same_child two.holds.same
+    (record {
+      node = two.node;
+      is = refl;
+    }) in
+    let value = value_of_ref c.args.value in
+    let w = subst (λ (z : Layout). Visited z value mid c.visit_part.new.layouts second next
+    c.visit_part.result) ch.is c.visit_part.ensures in
+    let last = fields_next (second + nodes (at l second)) later more refl
+    (λ id ms vs o os r. field_visited refl w r) in
+    fields_visited (fields_over last refl)
 
 pub visit_part-note-requires : goal.visit_part-note-requires
 visit_part-note-requires t c =
@@ -237,7 +359,9 @@ visit_part-note-requires t c =
     let a = at l c.args.node in
     let b = c.flag.result in
     let f = leaf_at a (value_of_ref c.args.v) (Truth b) c.args.from c.flag.ensures c.requires.ready in
-    let e = c.need_unsigned.ensures.need ∙ flag_needs v (sub (tree_of l.nodes.items) c.args.node) f.kind f.code b f.is (subst (λ (y : Value). Of a y) c.flag.ensures c.requires.ready.form) in
+    let e = c.need_unsigned.ensures.need
+    ∙ flag_needs v (sub (tree_of l.nodes.items) c.args.node) f.kind f.code b f.is
+    (subst (λ (y : Value). Of a y) c.flag.ensures c.requires.ready.form) in
     let le : c.need_unsigned.result ≤ greatest f.kind = omega (arith, e, f.fits) in
     leaf_tip v (noted_in l) c.args.node f.kind f.code c.need_unsigned.result c.requires.node f.is le
 
@@ -246,9 +370,11 @@ visit_part-note-requires-in-Int t c =
     let l = c.args.layouts.now in
     let v = version_of l.version in
     let z = c.int.result in
-    let f = integer_at (at l c.args.node) (value_of_ref c.args.v) z c.args.from c.int.ensures c.requires.ready in
+    let f = integer_at (at l c.args.node) (value_of_ref c.args.v) z c.args.from c.int.ensures
+    c.requires.ready in
     let fits : SFits w64 z = search rules in
-    let e : c.need_of-need.result ≡ need f.code z = c.need_of-need.ensures f.kind f.code f.is ∙ ap (need f.code) (to_z-of_z w64 z fits) in
+    let e : c.need_of-need.result ≡ need f.code z = c.need_of-need.ensures f.kind f.code f.is
+    ∙ ap (need f.code) (to_z-of_z w64 z fits) in
     let le : c.need_of-need.result ≤ greatest (Integer f.kind) = omega (arith, e, f.fits) in
     leaf_tip v (noted_in l) c.args.node (Integer f.kind) f.code c.need_of-need.result c.requires.node f.is le
 
@@ -256,7 +382,8 @@ pub visit_part-note_range-requires-clause-range : goal.visit_part-note_range-req
 visit_part-note_range-requires-clause-range t c =
     let a = at c.args.layouts.now c.args.node in
     let bs = c.bytes.result.now in
-    bytes_range a bs c.args.from (bytes_at a (value_of_ref c.args.v) bs c.args.from c.bytes.ensures c.requires.ready)
+    bytes_range a bs c.args.from (bytes_at a (value_of_ref c.args.v) bs c.args.from c.bytes.ensures
+    c.requires.ready)
 
 pub visit_part-note_range-requires-clause-fits : goal.visit_part-note_range-requires-clause-fits
 visit_part-note_range-requires-clause-fits t c =
@@ -269,20 +396,26 @@ visit_part-note_range-requires-in-List-clause-range t c =
     let a = at c.args.layouts.now c.args.node in
     let u = value_of_ref c.args.v in
     let is = items_kind c.kind-kind.result u c.kind-kind.ensures.form c.in-List.is in
-    (items_range a (items_of u) c.args.from (items_at a u (items_of u) c.args.from (items_form u is) c.requires.ready)).0
+    (items_range a (items_of u) c.args.from (items_at a u (items_of u) c.args.from (items_form u is)
+    c.requires.ready)).0
 
 pub visit_part-note_range-requires-in-List-clause-fits : goal.visit_part-note_range-requires-in-List-clause-fits
 visit_part-note_range-requires-in-List-clause-fits t c =
     let a = at c.args.layouts.now c.args.node in
     let u = value_of_ref c.args.v in
     let is = items_kind c.kind-kind.result u c.kind-kind.ensures.form c.in-List.is in
-    subst (λ z. RangeFits 32 32 z c.args.from) (sym c.len-n.ensures) (items_at a u (items_of u) c.args.from (items_form u is) c.requires.ready).item_range
+    subst (λ z. RangeFits 32 32 z c.args.from) (sym c.len-n.ensures)
+    (items_at a u (items_of u) c.args.from (items_form u is) c.requires.ready).item_range
 
 pub visit_part-block_len-block-requires-clause-node : goal.visit_part-block_len-block-requires-clause-node
 visit_part-block_len-block-requires-clause-node t c =
     let l = c.args.layouts.now in
     let m = c.note_range-in-List.new.layouts in
-    let ch : Child (noted_in m) (version_of m.version) c.args.node (at l c.args.node) = same_child c.note_range-in-List.ensures.same (record { node = c.requires.node; is = refl }) in
+    let ch : Child (noted_in m) (version_of m.version) c.args.node (at l c.args.node) = same_child
+    c.note_range-in-List.ensures.same (record {
+      node = c.requires.node;
+      is = refl;
+    }) in
     ch.node
 
 pub visit_part-block_len-block-requires-clause-range : goal.visit_part-block_len-block-requires-clause-range
@@ -292,8 +425,14 @@ visit_part-block_len-block-requires-clause-range t c =
     let a = at l c.args.node in
     let u = value_of_ref c.args.v in
     let is = items_kind c.kind-kind.result u c.kind-kind.ensures.form c.in-List.is in
-    let ch : Child (noted_in m) (version_of m.version) c.args.node a = same_child c.note_range-in-List.ensures.same (record { node = c.requires.node; is = refl }) in
-    subst (λ (x : Layout). IsRange x) (sym ch.is) (items_range a (items_of u) c.args.from (items_at a u (items_of u) c.args.from (items_form u is) c.requires.ready)).0
+    let ch : Child (noted_in m) (version_of m.version) c.args.node a = same_child
+    c.note_range-in-List.ensures.same (record {
+      node = c.requires.node;
+      is = refl;
+    }) in
+    subst (λ (x : Layout). IsRange x) (sym ch.is)
+    (items_range a (items_of u) c.args.from (items_at a u (items_of u) c.args.from (items_form u is)
+    c.requires.ready)).0
 
 pub visit_part-block_len-block-requires-clause-few : goal.visit_part-block_len-block-requires-clause-few
 visit_part-block_len-block-requires-clause-few t c =
@@ -312,9 +451,29 @@ visit_part-visit_items-requires t c =
     let vs = items_of u in
     let is = items_kind c.kind-kind.result u c.kind-kind.ensures.form c.in-List.is in
     let k = items_at a u vs c.args.from (items_form u is) c.requires.ready in
-    let ch : Child (noted_in m) (version_of m.version) c.args.node a = same_child c.note_range-in-List.ensures.same (record { node = c.requires.node; is = refl }) in
-    let eb : c.block_len-block.result ≡ bytes_for (count vs * stride (item_of a)) = block_is (at m c.args.node) a vs c.len-n.result c.block_len-block.result ch.is (items_range a vs c.args.from k).1 c.block_len-block.ensures c.len-n.ensures in
-    (omega (arith, c.decreases), (ch.node, (subst (λ (x : Layout). IsHolder x) (sym ch.is) (items_range a vs c.args.from k).1, (row_kind c.kind-kind.result u c.kind-kind.ensures.form c.in-List.is c.in_default.not-Map, subst (λ (x : Layout). EachReady (item_of x) vs c.block_len-block.result) (sym ch.is) (items_ready a vs c.args.from c.block_len-block.result k eb)))))
+    let ch : Child (noted_in m) (version_of m.version) c.args.node a = same_child
+    c.note_range-in-List.ensures.same (record {
+      node = c.requires.node;
+      is = refl;
+    }) in
+    let eb : c.block_len-block.result
+    ≡ bytes_for (count vs * stride (item_of a)) = block_is (at m c.args.node) a vs c.len-n.result
+    c.block_len-block.result ch.is (items_range a vs c.args.from k).1 c.block_len-block.ensures
+    c.len-n.ensures in (
+      omega (arith, c.decreases),
+      (
+        ch.node,
+        (
+          subst (λ (x : Layout). IsHolder x) (sym ch.is) (items_range a vs c.args.from k).1,
+          (
+            row_kind c.kind-kind.result u c.kind-kind.ensures.form c.in-List.is c.in_default.not-Map,
+            subst
+                (λ (x : Layout). EachReady (item_of x) vs c.block_len-block.result) (sym ch.is)
+                (items_ready a vs c.args.from c.block_len-block.result k eb),
+          ),
+        ),
+      ),
+    )
 
 pub visit_part-visit_pairs-requires : goal.visit_part-visit_pairs-requires
 visit_part-visit_pairs-requires t c =
@@ -325,9 +484,29 @@ visit_part-visit_pairs-requires t c =
     let vs = items_of u in
     let is = items_kind c.kind-kind.result u c.kind-kind.ensures.form c.in-List.is in
     let k = items_at a u vs c.args.from (items_form u is) c.requires.ready in
-    let ch : Child (noted_in m) (version_of m.version) c.args.node a = same_child c.note_range-in-List.ensures.same (record { node = c.requires.node; is = refl }) in
-    let eb : c.block_len-block.result ≡ bytes_for (count vs * stride (item_of a)) = block_is (at m c.args.node) a vs c.len-n.result c.block_len-block.result ch.is (items_range a vs c.args.from k).1 c.block_len-block.ensures c.len-n.ensures in
-    (omega (arith, c.decreases), (ch.node, (subst (λ (x : Layout). IsHolder x) (sym ch.is) (items_range a vs c.args.from k).1, (map_kind c.kind-kind.result u c.kind-kind.ensures.form c.in-Map.is, subst (λ (x : Layout). EachReady (item_of x) vs c.block_len-block.result) (sym ch.is) (items_ready a vs c.args.from c.block_len-block.result k eb)))))
+    let ch : Child (noted_in m) (version_of m.version) c.args.node a = same_child
+    c.note_range-in-List.ensures.same (record {
+      node = c.requires.node;
+      is = refl;
+    }) in
+    let eb : c.block_len-block.result
+    ≡ bytes_for (count vs * stride (item_of a)) = block_is (at m c.args.node) a vs c.len-n.result
+    c.block_len-block.result ch.is (items_range a vs c.args.from k).1 c.block_len-block.ensures
+    c.len-n.ensures in (
+      omega (arith, c.decreases),
+      (
+        ch.node,
+        (
+          subst (λ (x : Layout). IsHolder x) (sym ch.is) (items_range a vs c.args.from k).1,
+          (
+            map_kind c.kind-kind.result u c.kind-kind.ensures.form c.in-Map.is,
+            subst
+                (λ (x : Layout). EachReady (item_of x) vs c.block_len-block.result) (sym ch.is)
+                (items_ready a vs c.args.from c.block_len-block.result k eb),
+          ),
+        ),
+      ),
+    )
 
 pub visit_part-overflow_add-result-in_default : goal.visit_part-overflow_add-result-in_default
 visit_part-overflow_add-result-in_default t c =
@@ -338,11 +517,23 @@ visit_part-overflow_add-result-in_default t c =
     let vs = items_of u in
     let is = items_kind c.kind-kind.result u c.kind-kind.ensures.form c.in-List.is in
     let k = items_at a u vs c.args.from (items_form u is) c.requires.ready in
-    let ch : Child (noted_in m) (version_of m.version) c.args.node a = same_child c.note_range-in-List.ensures.same (record { node = c.requires.node; is = refl }) in
-    let eb : c.block_len-block.result ≡ bytes_for (count vs * stride (item_of a)) = block_is (at m c.args.node) a vs c.len-n.result c.block_len-block.result ch.is (items_range a vs c.args.from k).1 c.block_len-block.ensures c.len-n.ensures in
+    let ch : Child (noted_in m) (version_of m.version) c.args.node a = same_child
+    c.note_range-in-List.ensures.same (record {
+      node = c.requires.node;
+      is = refl;
+    }) in
+    let eb : c.block_len-block.result
+    ≡ bytes_for (count vs * stride (item_of a)) = block_is (at m c.args.node) a vs c.len-n.result
+    c.block_len-block.result ch.is (items_range a vs c.args.from k).1 c.block_len-block.ensures
+    c.len-n.ensures in
     let r = c.visit_items in
-    let w = subst (λ (x : Layout). EachVisited (item_of x) vs m r.new.layouts (c.args.node + 3) c.block_len-block.result r.result) ch.is r.ensures in
-    omega (arith, items_next a vs c.args.from c.block_len-block.result r.result m r.new.layouts (c.args.node + 3) k eb w)
+    let w = subst (λ (x : Layout). EachVisited (item_of x) vs m r.new.layouts (c.args.node + 3)
+    c.block_len-block.result r.result) ch.is r.ensures in
+    omega (
+      arith,
+      items_end_at a vs c.args.from c.block_len-block.result r.result m r.new.layouts
+          (c.args.node + 3) k eb w,
+    )
 
 pub visit_part-overflow_add-result-in-Map : goal.visit_part-overflow_add-result-in-Map
 visit_part-overflow_add-result-in-Map t c =
@@ -353,26 +544,47 @@ visit_part-overflow_add-result-in-Map t c =
     let vs = items_of u in
     let is = items_kind c.kind-kind.result u c.kind-kind.ensures.form c.in-List.is in
     let k = items_at a u vs c.args.from (items_form u is) c.requires.ready in
-    let ch : Child (noted_in m) (version_of m.version) c.args.node a = same_child c.note_range-in-List.ensures.same (record { node = c.requires.node; is = refl }) in
-    let eb : c.block_len-block.result ≡ bytes_for (count vs * stride (item_of a)) = block_is (at m c.args.node) a vs c.len-n.result c.block_len-block.result ch.is (items_range a vs c.args.from k).1 c.block_len-block.ensures c.len-n.ensures in
+    let ch : Child (noted_in m) (version_of m.version) c.args.node a = same_child
+    c.note_range-in-List.ensures.same (record {
+      node = c.requires.node;
+      is = refl;
+    }) in
+    let eb : c.block_len-block.result
+    ≡ bytes_for (count vs * stride (item_of a)) = block_is (at m c.args.node) a vs c.len-n.result
+    c.block_len-block.result ch.is (items_range a vs c.args.from k).1 c.block_len-block.ensures
+    c.len-n.ensures in
     let r = c.visit_pairs in
-    let w = subst (λ (x : Layout). EachVisited (item_of x) vs m r.new.layouts (c.args.node + 3) c.block_len-block.result r.result) ch.is r.ensures in
-    omega (arith, items_next a vs c.args.from c.block_len-block.result r.result m r.new.layouts (c.args.node + 3) k eb w)
+    let w = subst (λ (x : Layout). EachVisited (item_of x) vs m r.new.layouts (c.args.node + 3)
+    c.block_len-block.result r.result) ch.is r.ensures in
+    omega (
+      arith,
+      items_end_at a vs c.args.from c.block_len-block.result r.result m r.new.layouts
+          (c.args.node + 3) k eb w,
+    )
 
 pub visit_part-overflow_add-node : goal.visit_part-overflow_add-node
 visit_part-overflow_add-node t c =
     let l = c.args.layouts.now in
-    omega (arith, node_small l.version l.nodes.items (sub (tree_of l.nodes.items) c.args.node) c.args.node l.listing l.sound c.requires.node)
+    omega (
+      arith,
+      node_small l.version l.nodes.items (sub (tree_of l.nodes.items) c.args.node) c.args.node
+          l.listing l.sound c.requires.node,
+    )
 
 pub visit_part-note-requires-in-Present : goal.visit_part-note-requires-in-Present
 visit_part-note-requires-in-Present t c =
     let l = c.args.layouts.now in
-    flag_here l c.args.node (value_of_ref c.args.v) c.args.from c.requires.node c.in-Present.ensures.form c.requires.ready
+    flag_here l c.args.node (value_of_ref c.args.v) c.args.from c.requires.node c.in-Present.ensures.form
+    c.requires.ready
 
 pub visit_part-overflow_add-node-in-Present : goal.visit_part-overflow_add-node-in-Present
 visit_part-overflow_add-node-in-Present t c =
     let l = c.args.layouts.now in
-    omega (arith, node_small l.version l.nodes.items (sub (tree_of l.nodes.items) c.args.node) c.args.node l.listing l.sound c.requires.node)
+    omega (
+      arith,
+      node_small l.version l.nodes.items (sub (tree_of l.nodes.items) c.args.node) c.args.node
+          l.listing l.sound c.requires.node,
+    )
 
 pub visit_part-visit_part-requires : goal.visit_part-visit_part-requires
 visit_part-visit_part-requires t c =
@@ -380,10 +592,14 @@ visit_part-visit_part-requires t c =
     let m = c.note-in-Present.new.self in
     let f = c.note-in-Present.ensures in
     let x = value_of_ref c.inner.result in
-    let p = present_at (at l c.args.node) (value_of_ref c.args.v) x c.args.from c.inner.ensures c.requires.ready in
+    let p = present_at (at l c.args.node) (value_of_ref c.args.v) x c.args.from c.inner.ensures
+    c.requires.ready in
     let s : Same l m = record { layout = f.layout } in
-    let ch : Child (noted_in m) (version_of m.version) (c.args.node + 2) p.inner = same_child s (inner_child (noted_in l) (version_of l.version) c.args.node p.w p.inner c.requires.node p.is) in
-    (omega (arith, c.decreases, ap height c.inner.ensures), (ch.node, subst (λ (z : Layout). Ready z x c.args.from) (sym ch.is) p.ready))
+    let ch : Child (noted_in m) (version_of m.version) (c.args.node + 2) p.inner = same_child s
+    (inner_child (noted_in l) (version_of l.version) c.args.node p.w p.inner c.requires.node p.is) in (
+      omega (arith, c.decreases, ap height c.inner.ensures),
+      (ch.node, subst (λ (z : Layout). Ready z x c.args.from) (sym ch.is) p.ready),
+    )
 
 pub visit_part-returns-in-Flag : goal.visit_part-returns-in-Flag
 visit_part-returns-in-Flag t c =
@@ -392,10 +608,13 @@ visit_part-returns-in-Flag t c =
     let a = at l c.args.node in
     let b = c.flag.result in
     let f = leaf_at a (value_of_ref c.args.v) (Truth b) c.args.from c.flag.ensures c.requires.ready in
-    let e = c.need_unsigned.ensures.need ∙ flag_needs v (sub (tree_of l.nodes.items) c.args.node) f.kind f.code b f.is (subst (λ (y : Value). Of a y) c.flag.ensures c.requires.ready.form) in
+    let e = c.need_unsigned.ensures.need
+    ∙ flag_needs v (sub (tree_of l.nodes.items) c.args.node) f.kind f.code b f.is
+    (subst (λ (y : Value). Of a y) c.flag.ensures c.requires.ready.form) in
     let le : c.need_unsigned.result ≤ greatest f.kind = omega (arith, e, f.fits) in
     let n = c.note.ensures in
-    visited_leaf a (value_of_ref c.args.v) f.kind f.code (Truth b) c.need_unsigned.result l c.note.new.self c.args.node c.args.from f.is c.flag.ensures e le n.noted (record { layout = n.layout })
+    visited_leaf a (value_of_ref c.args.v) f.kind f.code (Truth b) c.need_unsigned.result l c.note.new.self
+    c.args.node c.args.from f.is c.flag.ensures e le n.noted (record { layout = n.layout })
 
 pub visit_part-returns-in-Int : goal.visit_part-returns-in-Int
 visit_part-returns-in-Int t c =
@@ -405,10 +624,13 @@ visit_part-returns-in-Int t c =
     let z = c.int.result in
     let f = integer_at a (value_of_ref c.args.v) z c.args.from c.int.ensures c.requires.ready in
     let fits : SFits w64 z = search rules in
-    let e : c.need_of-need.result ≡ need f.code z = c.need_of-need.ensures f.kind f.code f.is ∙ ap (need f.code) (to_z-of_z w64 z fits) in
+    let e : c.need_of-need.result ≡ need f.code z = c.need_of-need.ensures f.kind f.code f.is
+    ∙ ap (need f.code) (to_z-of_z w64 z fits) in
     let le : c.need_of-need.result ≤ greatest (Integer f.kind) = omega (arith, e, f.fits) in
     let n = c.note-in-Int.ensures in
-    visited_leaf a (value_of_ref c.args.v) (Integer f.kind) f.code (Number z) c.need_of-need.result l c.note-in-Int.new.self c.args.node c.args.from f.is c.int.ensures e le n.noted (record { layout = n.layout })
+    visited_leaf a (value_of_ref c.args.v) (Integer f.kind) f.code (Number z) c.need_of-need.result l
+    c.note-in-Int.new.self c.args.node c.args.from f.is c.int.ensures e le n.noted
+    (record { layout = n.layout })
 
 pub visit_part-returns-in-Text : goal.visit_part-returns-in-Text
 visit_part-returns-in-Text t c =
@@ -417,7 +639,8 @@ visit_part-returns-in-Text t c =
     let u = value_of_ref c.args.v in
     let bs = c.bytes.result.now in
     let k = bytes_at a u bs c.args.from c.bytes.ensures c.requires.ready in
-    visited_bytes a u bs l c.note_range.new.layouts c.args.node c.args.from _ c.bytes.ensures k refl c.note_range.ensures
+    visited_bytes a u bs l c.note_range.new.layouts c.args.node c.args.from _ c.bytes.ensures k refl
+    c.note_range.ensures
 
 pub visit_part-returns-in_default : goal.visit_part-returns-in_default
 visit_part-returns-in_default t c =
@@ -429,11 +652,20 @@ visit_part-returns-in_default t c =
     let is = items_kind c.kind-kind.result u c.kind-kind.ensures.form c.in-List.is in
     let e = items_form u is in
     let k = items_at a u vs c.args.from e c.requires.ready in
-    let ch : Child (noted_in m) (version_of m.version) c.args.node a = same_child c.note_range-in-List.ensures.same (record { node = c.requires.node; is = refl }) in
-    let eb : c.block_len-block.result ≡ bytes_for (count vs * stride (item_of a)) = block_is (at m c.args.node) a vs c.len-n.result c.block_len-block.result ch.is (items_range a vs c.args.from k).1 c.block_len-block.ensures c.len-n.ensures in
+    let ch : Child (noted_in m) (version_of m.version) c.args.node a = same_child
+    c.note_range-in-List.ensures.same (record {
+      node = c.requires.node;
+      is = refl;
+    }) in
+    let eb : c.block_len-block.result
+    ≡ bytes_for (count vs * stride (item_of a)) = block_is (at m c.args.node) a vs c.len-n.result
+    c.block_len-block.result ch.is (items_range a vs c.args.from k).1 c.block_len-block.ensures
+    c.len-n.ensures in
     let r = c.visit_items in
-    let w = subst (λ (x : Layout). EachVisited (item_of x) vs m r.new.layouts (c.args.node + 3) c.block_len-block.result r.result) ch.is r.ensures in
-    visited_items a u vs l m r.new.layouts c.args.node c.args.from c.len-n.result c.block_len-block.result r.result e k c.len-n.ensures eb c.note_range-in-List.ensures w
+    let w = subst (λ (x : Layout). EachVisited (item_of x) vs m r.new.layouts (c.args.node + 3)
+    c.block_len-block.result r.result) ch.is r.ensures in
+    visited_items a u vs l m r.new.layouts c.args.node c.args.from c.len-n.result c.block_len-block.result
+    r.result e k c.len-n.ensures eb c.note_range-in-List.ensures w
 
 pub visit_part-returns-in-Map : goal.visit_part-returns-in-Map
 visit_part-returns-in-Map t c =
@@ -445,14 +677,24 @@ visit_part-returns-in-Map t c =
     let is = items_kind c.kind-kind.result u c.kind-kind.ensures.form c.in-List.is in
     let e = items_form u is in
     let k = items_at a u vs c.args.from e c.requires.ready in
-    let ch : Child (noted_in m) (version_of m.version) c.args.node a = same_child c.note_range-in-List.ensures.same (record { node = c.requires.node; is = refl }) in
-    let eb : c.block_len-block.result ≡ bytes_for (count vs * stride (item_of a)) = block_is (at m c.args.node) a vs c.len-n.result c.block_len-block.result ch.is (items_range a vs c.args.from k).1 c.block_len-block.ensures c.len-n.ensures in
+    let ch : Child (noted_in m) (version_of m.version) c.args.node a = same_child
+    c.note_range-in-List.ensures.same (record {
+      node = c.requires.node;
+      is = refl;
+    }) in
+    let eb : c.block_len-block.result
+    ≡ bytes_for (count vs * stride (item_of a)) = block_is (at m c.args.node) a vs c.len-n.result
+    c.block_len-block.result ch.is (items_range a vs c.args.from k).1 c.block_len-block.ensures
+    c.len-n.ensures in
     let r = c.visit_pairs in
-    let w = subst (λ (x : Layout). EachVisited (item_of x) vs m r.new.layouts (c.args.node + 3) c.block_len-block.result r.result) ch.is r.ensures in
-    visited_items a u vs l m r.new.layouts c.args.node c.args.from c.len-n.result c.block_len-block.result r.result e k c.len-n.ensures eb c.note_range-in-List.ensures w
+    let w = subst (λ (x : Layout). EachVisited (item_of x) vs m r.new.layouts (c.args.node + 3)
+    c.block_len-block.result r.result) ch.is r.ensures in
+    visited_items a u vs l m r.new.layouts c.args.node c.args.from c.len-n.result c.block_len-block.result
+    r.result e k c.len-n.ensures eb c.note_range-in-List.ensures w
 
 pub visit_part-returns-in-Absent : goal.visit_part-returns-in-Absent
-visit_part-returns-in-Absent t c = visited_absent (at c.args.layouts.now c.args.node) (value_of_ref c.args.v) c.args.layouts.now c.args.node c.args.from c.in-Absent.ensures.form c.requires.ready.form
+visit_part-returns-in-Absent t c = visited_absent (at c.args.layouts.now c.args.node) (value_of_ref c.args.v)
+    c.args.layouts.now c.args.node c.args.from c.in-Absent.ensures.form c.requires.ready.form
 
 pub visit_part-returns-in-Present : goal.visit_part-returns-in-Present
 visit_part-returns-in-Present t c =
@@ -464,6 +706,9 @@ visit_part-returns-in-Present t c =
     let r = c.visit_part in
     let p = present_at (at l c.args.node) u x c.args.from c.inner.ensures c.requires.ready in
     let s : Same l m = record { layout = f.layout } in
-    let ch : Child (noted_in m) (version_of m.version) (c.args.node + 2) p.inner = same_child s (inner_child (noted_in l) (version_of l.version) c.args.node p.w p.inner c.requires.node p.is) in
-    let w = subst (λ (z : Layout). Visited z x m r.new.layouts (c.args.node + 2) c.args.from r.result) ch.is r.ensures in
-    visited_present (at l c.args.node) u x p.w p.inner l m r.new.layouts c.args.node c.args.from r.result p.is c.inner.ensures f.noted s w
+    let ch : Child (noted_in m) (version_of m.version) (c.args.node + 2) p.inner = same_child s
+    (inner_child (noted_in l) (version_of l.version) c.args.node p.w p.inner c.requires.node p.is) in
+    let w = subst (λ (z : Layout). Visited z x m r.new.layouts (c.args.node + 2) c.args.from r.result) ch.is
+    r.ensures in
+    visited_present (at l c.args.node) u x p.w p.inner l m r.new.layouts c.args.node c.args.from r.result p.is
+    c.inner.ensures f.noted s w

@@ -1,4 +1,5 @@
-use Rattle.std.proofs.Common.{◌≡◌, ◌+◌, ◌<◌, true, length, drop, slice_index_or, arith, refl, ap, sym, ◌∙◌, subst, rules, w64}
+use Rattle.std.proofs.Common.{◌≡◌, ◌+◌, ◌<◌, true, length, drop, slice_index_or, arith, refl, ap, sym, ◌∙◌}
+use Rattle.std.proofs.Common.{subst, rules, w64}
 use Rattle.std.proofs.lemmas.Int.{to_z-of_z}
 use mir.Val.{SFits}
 use Rattle.frozen_model.specs.Trees.{nodes}
@@ -20,7 +21,8 @@ pub loop-node-init : goal.loop-node-init
 loop-node-init c =
     let l = c.args.layouts.now in
     record {
-      left = begins (version_of l.version) (noted_in l) (value_of_ref c.args.v) c.in_ok-bounds.bounds.items c.requires.form c.in_ok-bounds.ensures;
+      left = begins (version_of l.version) (noted_in l) (value_of_ref c.args.v) c.in_ok-bounds.bounds.items
+          c.requires.form c.in_ok-bounds.ensures;
       same = refl;
       version = refl;
       relaxed = refl;
@@ -30,7 +32,8 @@ pub index-requires : goal.index-requires
 index-requires c =
     let l = c.args.layouts.now in
     let bs = c.in_ok-bounds.bounds in
-    let many = as_many (version_of l.version) (noted_in l) (value_of_ref c.args.v) bs.items c.requires.form c.in_ok-bounds.ensures in
+    let many = as_many (version_of l.version) (noted_in l) (value_of_ref c.args.v) bs.items c.requires.form
+    c.in_ok-bounds.ensures in
     omega (arith, bs.ok.0, many, c.count-node-end.ensures, c.loop-node-test.true)
 
 pub rebase-requires-clause-leaf : goal.rebase-requires-clause-leaf
@@ -44,10 +47,12 @@ rebase-requires-clause-leaf c =
     let b = c.index.result.now in
     let many = as_many n (noted_in l) u bs.items c.requires.form c.in_ok-bounds.ensures in
     let inside : k < length bs.items = omega (arith, many, c.count-node-end.ensures, c.loop-node-test.true) in
-    let step = bases_step t k (k + 1) bs.items (based_on (noted_in l) (puts_of (layout_of l).tree u)) b b inside (omega arith) c.index.ensures c.loop-node.invariant.left in
+    let step = bases_step t k (k + 1) bs.items (based_on (noted_in l) (puts_of (layout_of l).tree u)) b b
+    inside (omega arith) c.index.ensures c.loop-node.invariant.left in
     let z = c.base.result in
     let z_fits : SFits w64 z = search rules in
-    subst (BaseAt t k) (sym (to_z-of_z w64 z z_fits ∙ c.base.ensures)) (step.0 (sym c.is_whole.ensures ∙ c.if-is_whole.true))
+    subst (BaseAt t k) (sym (to_z-of_z w64 z z_fits ∙ c.base.ensures))
+    (step.0 (sym c.is_whole.ensures ∙ c.if-is_whole.true))
 
 pub loop-node-preserved : goal.loop-node-preserved
 loop-node-preserved c =
@@ -71,7 +76,8 @@ loop-node-preserved c =
           let step = bases_step t k (k + 1) bs.items end b b inside (omega arith) w.index.ensures i.left in
           let fits = step.0 (sym c.is_whole.ensures ∙ w.if-is_whole.true) in
           let new = c.if-is_whole.layouts in
-          let is : noted_in new ≡ based_at t k (base_by b) = ap (λ x. noted_in x) w.layouts-is ∙ w.rebase.ensures.noted ∙ ap (based_at t k) ez in
+          let is : noted_in new ≡ based_at t k (base_by b) = ap (λ x. noted_in x) w.layouts-is
+          ∙ w.rebase.ensures.noted ∙ ap (based_at t k) ez in
           record {
             left = subst (λ (x : Noted). BasesTo x (k + 1) (drop (k + 1) bs.items) end) (sym is) step.2;
             same = ap (λ (x : Noted). nodes x) is ∙ (kept t k (base_by b) fits).nodes ∙ i.same;
@@ -85,7 +91,8 @@ loop-node-preserved c =
           let new = c.if-is_whole.layouts in
           let is : noted_in new ≡ t = ap (λ x. noted_in x) w.layouts-is in
           record {
-            left = subst (λ (x : Noted). BasesTo x (k + 1) (drop (k + 1) bs.items) end) (stays ∙ sym is) step.2;
+            left = subst (λ (x : Noted). BasesTo x (k + 1) (drop (k + 1) bs.items) end) (stays ∙ sym is)
+                step.2;
             same = ap (λ (x : Noted). nodes x) is ∙ i.same;
             version = ap (λ x. (layout_of x).version) w.layouts-is ∙ i.version;
             relaxed = ap (λ x. (layout_of x).relaxed) w.layouts-is ∙ i.relaxed;
@@ -99,8 +106,15 @@ returns-clause-based c =
     let bs = c.in_ok-bounds.bounds.items in
     let many = as_many (version_of l.version) (noted_in l) u bs c.requires.form c.in_ok-bounds.ensures in
     let k = c.loop-node.node in
-    let over : k ≡ length bs = omega (arith, many, c.count-node-end.ensures, c.loop-node-test.false, c.loop-node.auto.node-end) in
-    bases_end (noted_in c.loop-node.layouts) k bs (based_on (noted_in l) (puts_of (layout_of l).tree u)) over c.loop-node.invariant.left
+    let over : k ≡ length bs = omega (
+      arith,
+      many,
+      c.count-node-end.ensures,
+      c.loop-node-test.false,
+      c.loop-node.auto.node-end,
+    ) in
+    bases_end (noted_in c.loop-node.layouts) k bs (based_on (noted_in l) (puts_of (layout_of l).tree u)) over
+    c.loop-node.invariant.left
 
 pub returns-clause-start : goal.returns-clause-start
 returns-clause-start c =
@@ -110,9 +124,17 @@ returns-clause-start c =
     let bs = c.in_ok-bounds.bounds.items in
     let many = as_many (version_of l.version) (noted_in l) u bs c.requires.form c.in_ok-bounds.ensures in
     let k = c.loop-node.node in
-    let over : k ≡ length bs = omega (arith, many, c.count-node-end.ensures, c.loop-node-test.false, c.loop-node.auto.node-end) in
-    let is = bases_end (noted_in m) k bs (based_on (noted_in l) (puts_of (layout_of l).tree u)) over c.loop-node.invariant.left in
-    starts_at (version_of l.version) (version_of m.version) (noted_in l) (noted_in m) u c.requires.version c.loop-node.invariant.version c.requires.form c.requires.blank is
+    let over : k ≡ length bs = omega (
+      arith,
+      many,
+      c.count-node-end.ensures,
+      c.loop-node-test.false,
+      c.loop-node.auto.node-end,
+    ) in
+    let is = bases_end (noted_in m) k bs (based_on (noted_in l) (puts_of (layout_of l).tree u)) over
+    c.loop-node.invariant.left in
+    starts_at (version_of l.version) (version_of m.version) (noted_in l) (noted_in m) u c.requires.version
+    c.loop-node.invariant.version c.requires.form c.requires.blank is
 
 pub returns-clause-settled : goal.returns-clause-settled
 returns-clause-settled c h =
@@ -122,7 +144,16 @@ returns-clause-settled c h =
     let bs = c.in_ok-bounds.bounds.items in
     let many = as_many (version_of l.version) (noted_in l) u bs c.requires.form c.in_ok-bounds.ensures in
     let k = c.loop-node.node in
-    let over : k ≡ length bs = omega (arith, many, c.count-node-end.ensures, c.loop-node-test.false, c.loop-node.auto.node-end) in
-    let is = bases_end (noted_in m) k bs (based_on (noted_in l) (puts_of (layout_of l).tree u)) over c.loop-node.invariant.left in
-    let rests = settled_at (version_of l.version) (version_of m.version) (noted_in l) (noted_in m) u c.requires.version c.loop-node.invariant.version c.requires.form is (ap (λ (d : Described). d.tree) h) in
+    let over : k ≡ length bs = omega (
+      arith,
+      many,
+      c.count-node-end.ensures,
+      c.loop-node-test.false,
+      c.loop-node.auto.node-end,
+    ) in
+    let is = bases_end (noted_in m) k bs (based_on (noted_in l) (puts_of (layout_of l).tree u)) over
+    c.loop-node.invariant.left in
+    let rests = settled_at (version_of l.version) (version_of m.version) (noted_in l) (noted_in m) u
+    c.requires.version c.loop-node.invariant.version c.requires.form is
+    (ap (λ (d : Described). d.tree) h) in
     ap (λ (x : Layout). described (version_of m.version) m.relaxed x) rests

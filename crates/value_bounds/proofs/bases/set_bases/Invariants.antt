@@ -9,7 +9,8 @@ use Rattle.value_bounds.proofs.bases.set_bases.Given as goal
 
 abbrev pub invariant-loop-node : goal.invariant-loop-node
 invariant-loop-node l = record {
-  left : BasesTo (noted_in l.layouts) l.node (drop l.node l.bounds.items) (based_on (noted_in l.fn.layouts) (puts_of (layout_of l.fn.layouts).tree (value_of_ref l.v)));
+  left : BasesTo (noted_in l.layouts) l.node (drop l.node l.bounds.items)
+      (based_on (noted_in l.fn.layouts) (puts_of (layout_of l.fn.layouts).tree (value_of_ref l.v)));
   same : nodes (noted_in l.layouts) ≡ nodes (noted_in l.fn.layouts);
   version : (layout_of l.layouts).version ≡ (layout_of l.fn.layouts).version;
   relaxed : (layout_of l.layouts).relaxed ≡ (layout_of l.fn.layouts).relaxed;

@@ -21,7 +21,17 @@ returns c =
     let a_fits : SFits w64 a = search rules in
     let b_fits : SFits w64 b = search rules in
     let least : to_z w64 (of_z w64 a) ≡ int_min old.least x =
-    to_z-of_z w64 a a_fits ∙ c.min.ensures.value ∙ ap (λ z. int_min z (to_z w64 (of_z w64 x))) (to_z-of_z w64 old.least least_fits) ∙ ap (λ z. int_min old.least z) (to_z-of_z w64 x x_fits) in
+    to_z-of_z w64 a a_fits ∙ c.min.ensures.value
+    ∙ ap (λ z. int_min z (to_z w64 (of_z w64 x))) (to_z-of_z w64 old.least least_fits)
+    ∙ ap (λ z. int_min old.least z) (to_z-of_z w64 x x_fits) in
     let greatest : to_z w64 (of_z w64 b) ≡ int_max old.greatest x =
-    to_z-of_z w64 b b_fits ∙ c.max.ensures.value ∙ ap (λ z. int_max z (to_z w64 (of_z w64 x))) (to_z-of_z w64 old.greatest greatest_fits) ∙ ap (λ z. int_max old.greatest z) (to_z-of_z w64 x x_fits) in
-    ap (λ z. slice_set bs n (record { least = z; greatest = to_z w64 (of_z w64 b) })) least ∙ ap (λ z. slice_set bs n (record { least = int_min old.least x; greatest = z })) greatest ∙ one_seen bs n x d c.requires
+    to_z-of_z w64 b b_fits ∙ c.max.ensures.value
+    ∙ ap (λ z. int_max z (to_z w64 (of_z w64 x))) (to_z-of_z w64 old.greatest greatest_fits)
+    ∙ ap (λ z. int_max old.greatest z) (to_z-of_z w64 x x_fits) in
+    ap (λ z. slice_set bs n (record {
+      least = z;
+      greatest = to_z w64 (of_z w64 b);
+    })) least ∙ ap (λ z. slice_set bs n (record {
+      least = int_min old.least x;
+      greatest = z;
+    })) greatest ∙ one_seen bs n x d c.requires

@@ -20,7 +20,8 @@ see_part-requires-clause-node c = root_node (tree_of c.args.layouts.now.nodes.it
 pub see_part-requires-clause-form : goal.see_part-requires-clause-form
 see_part-requires-clause-form c =
     let l = c.args.layouts.now in
-    let e : at l 0 ≡ (layout_of l).tree = ap (layout_in (version_of l.version)) (root_sub (tree_of l.nodes.items)) in
+    let e : at l 0 ≡ (layout_of l).tree = ap (layout_in (version_of l.version))
+    (root_sub (tree_of l.nodes.items)) in
     subst (λ (z : Layout). Of z (value_of_ref c.args.v)) (sym e) c.requires
 
 pub returns : goal.returns
@@ -33,8 +34,13 @@ returns c =
     let from = bytes_for (stride tree) in
     let old = c.in_ok-bounds.bounds.items in
     let new = c.see_part.new.bounds in
-    let first : old ≡ replicate c.count.result no_bounds = search (rules, c.in_ok-bounds.ensures.items_if_clones_equal) in
-    let long : length (numbers (puts tree u from)) ≡ c.count.result = length_numbers (puts_beside c.requires from) ∙ same_nodes (version_of l.version) t ∙ sym c.count.ensures in
-    returned old new c.in_ok-bounds.bounds.len c.in_ok-bounds.bounds.ok.0 (c.see_part.auto.bounds ∙ ap length c.deref_mut.ensures.value)
-    ∙ c.see_part.ensures from ∙ ap (λ (z : Layout). seen c.deref_mut.result.now (numbers (puts z u from))) e ∙ ap (λ r. seen r (numbers (puts tree u from))) (c.deref_mut.ensures.value ∙ first)
+    let first : old ≡ replicate c.count.result no_bounds = search
+    (rules, c.in_ok-bounds.ensures.items_if_clones_equal) in
+    let long : length (numbers (puts tree u from))
+    ≡ c.count.result = length_numbers (puts_beside c.requires from) ∙ same_nodes (version_of l.version) t
+    ∙ sym c.count.ensures in
+    returned old new c.in_ok-bounds.bounds.len c.in_ok-bounds.bounds.ok.0
+    (c.see_part.auto.bounds ∙ ap length c.deref_mut.ensures.value)
+    ∙ c.see_part.ensures from ∙ ap (λ (z : Layout). seen c.deref_mut.result.now (numbers (puts z u from))) e
+    ∙ ap (λ r. seen r (numbers (puts tree u from))) (c.deref_mut.ensures.value ∙ first)
     ∙ seen_at_first c.count.result (numbers (puts tree u from)) long

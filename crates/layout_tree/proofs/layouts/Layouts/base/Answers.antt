@@ -19,4 +19,5 @@ returns c k b w e =
     let x = c.index-spec.result.now in
     let a = at_part ns (sub (tree_of ns) c.args.node) c.args.node c.args.self.now.listing c.requires in
     let f : SFits w64 x.base = search rules in
-    to_z-of_z w64 x.base f ∙ ap (λ x. x.base) c.index-spec.ensures ∙ base_read (version_of c.args.self.now.version) a x k b w e
+    to_z-of_z w64 x.base f ∙ ap (λ x. x.base) c.index-spec.ensures
+    ∙ base_read (version_of c.args.self.now.version) a x k b w e

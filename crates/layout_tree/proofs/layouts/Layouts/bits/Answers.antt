@@ -19,8 +19,10 @@ returns c =
     let s = sub (tree_of ns) c.args.node in
     let v = version_of l.version in
     let a = at_part ns s c.args.node l.listing c.requires in
-    let e : c.index.result.now.bits ≡ stride (layout_in v s) = ap (λ x. x.bits) c.index.ensures ∙ bits_read v a c.index.result.now in
+    let e : c.index.result.now.bits ≡ stride (layout_in v s) = ap (λ x. x.bits) c.index.ensures
+    ∙ bits_read v a c.index.result.now in
     record {
       bits = e;
-      leaf = λ h. bound l.version (tree_of ns) s c.args.node c.index.result.now.bits 64 l.sound c.requires (λ o. omega (arith, e, leaf_small (layout_in v s) o.legal h));
+      leaf = λ h. bound l.version (tree_of ns) s c.args.node c.index.result.now.bits 64 l.sound c.requires
+          (λ o. omega (arith, e, leaf_small (layout_in v s) o.legal h));
     }

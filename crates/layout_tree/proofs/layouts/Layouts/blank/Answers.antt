@@ -11,14 +11,17 @@ loop-i-preserved c =
     let k = c.loop-i in
     let x = c.index.result.now in
     let lt : k.i < length xs = omega (arith, c.args.from.now.nodes.ok.0) in
-    c.in_ok-push.ensures.items ∙ ap (λ r. r ++ c.clear.result ∷ []) k.invariant ∙ ap (λ y. map cleared (take k.i xs) ++ y ∷ []) (c.clear.ensures ∙ ap cleared c.index.ensures) ∙ sym (map_more cleared xs k.i x lt)
+    c.in_ok-push.ensures.items ∙ ap (λ r. r ++ c.clear.result ∷ []) k.invariant
+    ∙ ap (λ y. map cleared (take k.i xs) ++ y ∷ []) (c.clear.ensures ∙ ap cleared c.index.ensures)
+    ∙ sym (map_more cleared xs k.i x lt)
 
 pub invariant_of-result : goal.invariant_of-result
 invariant_of-result c =
     let l = c.args.from.now in
     let k = c.loop-i in
     let le : length l.nodes.items ≤ k.i = omega (arith, l.nodes.ok.0) in
-    let s = renewed l.version (version_of l.version) l.nodes.items k.nodes.items l.listing l.sound (k.invariant ∙ ap (map cleared) (take_all k.i l.nodes.items le)) in
+    let s = renewed l.version (version_of l.version) l.nodes.items k.nodes.items l.listing l.sound
+    (k.invariant ∙ ap (map cleared) (take_all k.i l.nodes.items le)) in
     record { listing = s.listing; sound = s.sound; relaxing = ∣ tt ∣₁ }
 
 pub returns : goal.returns
@@ -26,5 +29,6 @@ returns c =
     let l = c.args.from.now in
     let k = c.loop-i in
     let le : length l.nodes.items ≤ k.i = omega (arith, l.nodes.ok.0) in
-    let s = renewed l.version (version_of l.version) l.nodes.items k.nodes.items l.listing l.sound (k.invariant ∙ ap (map cleared) (take_all k.i l.nodes.items le)) in
+    let s = renewed l.version (version_of l.version) l.nodes.items k.nodes.items l.listing l.sound
+    (k.invariant ∙ ap (map cleared) (take_all k.i l.nodes.items le)) in
     record { layout = s.layout; settled = s.settled }

@@ -11,14 +11,17 @@ index-requires c =
 pub returns-in-Flag-clause-part : goal.returns-in-Flag-clause-part
 returns-in-Flag-clause-part c p =
     let l = c.args.self.now in
-    no_child (version_of l.version) l.nodes.items c.args.node c.index.result.now l.listing c.index.ensures c.in-Flag.is p c.args.field
+    no_child (version_of l.version) l.nodes.items c.args.node c.index.result.now l.listing c.index.ensures
+    c.in-Flag.is p c.args.field
 
 pub part_child-requires : goal.part_child-requires
 part_child-requires c =
     let l = c.args.self.now in
-    part_here l.nodes.items c.args.node c.index.result.now l.listing c.requires c.index.ensures c.in_default.not-Flag c.in_default.not-Size
+    part_here l.nodes.items c.args.node c.index.result.now l.listing c.requires c.index.ensures
+    c.in_default.not-Flag c.in_default.not-Size
 
 pub returns-in_default-clause-other : goal.returns-in_default-clause-other
 returns-in_default-clause-other c alone =
     let l = c.args.self.now in
-    absurd (alone (part_here l.nodes.items c.args.node c.index.result.now l.listing c.requires c.index.ensures c.in_default.not-Flag c.in_default.not-Size))
+    absurd (alone (part_here l.nodes.items c.args.node c.index.result.now l.listing c.requires c.index.ensures
+    c.in_default.not-Flag c.in_default.not-Size))

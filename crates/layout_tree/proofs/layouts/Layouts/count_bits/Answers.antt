@@ -21,5 +21,6 @@ returns c =
     let e = ap (λ x. x.bits) c.index.ensures ∙ count_read v a c.index.result.now c.requires.range in
     record {
       width = e;
-      small = bound l.version (tree_of ns) s c.args.node c.index.result.now.bits 32 l.sound c.requires.node (λ o. omega (arith, e, count_small (layout_in v s) o.legal c.requires.range));
+      small = bound l.version (tree_of ns) s c.args.node c.index.result.now.bits 32 l.sound c.requires.node
+          (λ o. omega (arith, e, count_small (layout_in v s) o.legal c.requires.range));
     }

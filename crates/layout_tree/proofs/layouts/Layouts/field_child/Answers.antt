@@ -18,40 +18,50 @@ past-end-requires c = number_of_part (tree_of c.args.self.now.nodes.items) c.arg
 pub loop-child-init : goal.loop-child-init
 loop-child-init c =
     let l = c.args.self.now in
-    child_start (version_of l.version) l.nodes.items c.args.node (c.args.node + 1) c.past-end.result (to_z w16 (of_z w16 c.args.field)) l.listing c.requires.node c.requires.structure refl (c.past-end.ensures.part c.requires.node)
+    child_start (version_of l.version) l.nodes.items c.args.node (c.args.node + 1) c.past-end.result
+    (to_z w16 (of_z w16 c.args.field)) l.listing c.requires.node c.requires.structure refl
+    (c.past-end.ensures.part c.requires.node)
 
 pub index-spec-requires : goal.index-spec-requires
 index-spec-requires c =
     let l = c.args.self.now in
     let z = to_z w16 (of_z w16 c.args.field) in
-    let st = child_step (version_of l.version) l.nodes.items c.past-end.result c.loop-child.child z (child_of (at l c.args.node) c.args.node z) c.loop-child.invariant c.loop-child-test.true in
+    let st = child_step (version_of l.version) l.nodes.items c.past-end.result c.loop-child.child z
+    (child_of (at l c.args.node) c.args.node z) c.loop-child.invariant c.loop-child-test.true in
     omega (arith, l.nodes.ok.0, st.within)
 
 pub returns-then-spec-field : goal.returns-then-spec-field
 returns-then-spec-field c =
     let l = c.args.self.now in
     let z = to_z w16 (of_z w16 c.args.field) in
-    let st = child_step (version_of l.version) l.nodes.items c.past-end.result c.loop-child.child z (child_of (at l c.args.node) c.args.node z) c.loop-child.invariant c.loop-child-test.true in
+    let st = child_step (version_of l.version) l.nodes.items c.past-end.result c.loop-child.child z
+    (child_of (at l c.args.node) c.args.node z) c.loop-child.invariant c.loop-child-test.true in
     let f : SFits w16 c.args.field = c.ranges.field in
     let x = c.index-spec.result.now in
     let g : SFits w16 x.field = search rules in
     let e : x.field ≡ pos st.name = ap (λ y. y.field) c.index-spec.ensures ∙ st.field x in
     let same : pos st.name ≡ z = sym (to_z-of_z w16 x.field g ∙ e) ∙ ap (to_z w16) c.if-spec-field.true in
-    st.found (int_same (pos st.name) z same) ∙ ap (λ y. child_of (at l c.args.node) c.args.node y) (to_z-of_z w16 c.args.field f)
+    st.found (int_same (pos st.name) z same)
+    ∙ ap (λ y. child_of (at l c.args.node) c.args.node y) (to_z-of_z w16 c.args.field f)
 
 pub past-child-requires : goal.past-child-requires
 past-child-requires c =
     let l = c.args.self.now in
     let z = to_z w16 (of_z w16 c.args.field) in
-    number_of_part (tree_of l.nodes.items) c.loop-child.child (child_step (version_of l.version) l.nodes.items c.past-end.result c.loop-child.child z (child_of (at l c.args.node) c.args.node z) c.loop-child.invariant c.loop-child-test.true).node.node
+    number_of_part (tree_of l.nodes.items) c.loop-child.child
+    (child_step (version_of l.version) l.nodes.items c.past-end.result c.loop-child.child z
+    (child_of (at l c.args.node) c.args.node z) c.loop-child.invariant c.loop-child-test.true).node.node
 
 pub loop-child-smaller : goal.loop-child-smaller
 loop-child-smaller c =
     let l = c.args.self.now in
     let z = to_z w16 (of_z w16 c.args.field) in
     let v = version_of l.version in
-    let st = child_step v l.nodes.items c.past-end.result c.loop-child.child z (child_of (at l c.args.node) c.args.node z) c.loop-child.invariant c.loop-child-test.true in
-    let pe : c.past-child.result ≡ c.loop-child.child + nodes st.here = c.past-child.ensures.part st.node.node ∙ ap (λ (y : Layout). c.loop-child.child + nodes y) st.node.is ∙ ap (λ y. c.loop-child.child + y) (same_nodes v st.here) in
+    let st = child_step v l.nodes.items c.past-end.result c.loop-child.child z
+    (child_of (at l c.args.node) c.args.node z) c.loop-child.invariant c.loop-child-test.true in
+    let pe : c.past-child.result ≡ c.loop-child.child + nodes st.here = c.past-child.ensures.part st.node.node
+    ∙ ap (λ (y : Layout). c.loop-child.child + nodes y) st.node.is
+    ∙ ap (λ y. c.loop-child.child + y) (same_nodes v st.here) in
     omega (arith, c.loop-child-test.true, pe, some_nodes st.here, st.past)
 
 pub loop-child-preserved : goal.loop-child-preserved
@@ -59,13 +69,17 @@ loop-child-preserved c =
     let l = c.args.self.now in
     let z = to_z w16 (of_z w16 c.args.field) in
     let v = version_of l.version in
-    let st = child_step v l.nodes.items c.past-end.result c.loop-child.child z (child_of (at l c.args.node) c.args.node z) c.loop-child.invariant c.loop-child-test.true in
-    let pe : c.past-child.result ≡ c.loop-child.child + nodes st.here = c.past-child.ensures.part st.node.node ∙ ap (λ (y : Layout). c.loop-child.child + nodes y) st.node.is ∙ ap (λ y. c.loop-child.child + y) (same_nodes v st.here) in
+    let st = child_step v l.nodes.items c.past-end.result c.loop-child.child z
+    (child_of (at l c.args.node) c.args.node z) c.loop-child.invariant c.loop-child-test.true in
+    let pe : c.past-child.result ≡ c.loop-child.child + nodes st.here = c.past-child.ensures.part st.node.node
+    ∙ ap (λ (y : Layout). c.loop-child.child + nodes y) st.node.is
+    ∙ ap (λ y. c.loop-child.child + y) (same_nodes v st.here) in
     let x = c.index-spec.result.now in
     let g : SFits w16 x.field = search rules in
     let e : x.field ≡ pos st.name = ap (λ y. y.field) c.index-spec.ensures ∙ st.field x in
     let f : SFits w16 c.args.field = c.ranges.field in
-    let ne = λ (q : pos st.name ≡ z). c.if-spec-field.false (ap (of_z w16) (e ∙ q ∙ to_z-of_z w16 c.args.field f)) in
+    let ne = λ (q : pos st.name ≡ z). c.if-spec-field.false
+    (ap (of_z w16) (e ∙ q ∙ to_z-of_z w16 c.args.field f)) in
     st.next (int_other (pos st.name) z ne) c.past-child.result pe
 
 pub returns : goal.returns
@@ -73,4 +87,6 @@ returns c =
     let l = c.args.self.now in
     let z = to_z w16 (of_z w16 c.args.field) in
     let f : SFits w16 c.args.field = c.ranges.field in
-    child_end l.nodes.items c.past-end.result c.loop-child.child z (child_of (at l c.args.node) c.args.node z) c.loop-child.invariant c.loop-child-test.false ∙ ap (λ y. child_of (at l c.args.node) c.args.node y) (to_z-of_z w16 c.args.field f)
+    child_end l.nodes.items c.past-end.result c.loop-child.child z (child_of (at l c.args.node) c.args.node z)
+    c.loop-child.invariant c.loop-child-test.false
+    ∙ ap (λ y. child_of (at l c.args.node) c.args.node y) (to_z-of_z w16 c.args.field f)

@@ -11,4 +11,5 @@ index-requires c =
 pub returns : goal.returns
 returns c =
     let l = c.args.self.now in
-    c.is_whole_kind.ensures ∙ whole_listed l.nodes.items c.args.node c.index.result.now l.listing c.requires c.index.ensures
+    c.is_whole_kind.ensures ∙ whole_listed l.nodes.items c.args.node c.index.result.now l.listing c.requires
+    c.index.ensures

@@ -21,5 +21,6 @@ returns c =
     let e = ap (λ x. x.bits) c.index.ensures ∙ isset_read v a c.index.result.now c.requires.range in
     record {
       width = e;
-      small = bound l.version (tree_of ns) s c.args.node c.index.result.now.bits 1 l.sound c.requires.node (λ o. omega (arith, e, isset_small (layout_in v s) o.legal c.requires.range));
+      small = bound l.version (tree_of ns) s c.args.node c.index.result.now.bits 1 l.sound c.requires.node
+          (λ o. omega (arith, e, isset_small (layout_in v s) o.legal c.requires.range));
     }

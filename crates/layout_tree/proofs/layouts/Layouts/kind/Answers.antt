@@ -16,4 +16,5 @@ pub returns : goal.returns
 returns c =
     let ns = c.args.self.now.nodes.items in
     let a = at_part ns (sub (tree_of ns) c.args.node) c.args.node c.args.self.now.listing c.requires in
-    ap (λ x. plain x.kind) c.index.ensures ∙ kind_read (version_of c.args.self.now.version) a c.index.result.now
+    ap (λ x. plain x.kind) c.index.ensures
+    ∙ kind_read (version_of c.args.self.now.version) a c.index.result.now

@@ -13,5 +13,14 @@ returns c =
     let l = c.args.self.now in
     let x = c.index.result.now in
     ap (λ r. slice_get (map shown r) c.args.node) (sym l.listing)
-    ∙ get_shown l.nodes.items c.args.node x (in_list l.nodes.items c.args.node l.listing c.requires) c.index.ensures
-    ∙ ap (λ w. Some (record { kind = x.kind; field = x.field; parent = x.parent; bits = x.bits; wide = w; offset = x.offset; base = x.base })) (sym c.wide_of.ensures)
+    ∙ get_shown l.nodes.items c.args.node x (in_list l.nodes.items c.args.node l.listing c.requires)
+    c.index.ensures
+    ∙ ap (λ w. Some (record {
+      kind = x.kind;
+      field = x.field;
+      parent = x.parent;
+      bits = x.bits;
+      wide = w;
+      offset = x.offset;
+      base = x.base;
+    })) (sym c.wide_of.ensures)

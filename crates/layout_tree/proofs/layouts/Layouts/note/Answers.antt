@@ -15,7 +15,8 @@ returns-then-index-need-clause-noted c =
     let l = c.args.self.now in
     let n = c.args.node in
     let w = wide_at (noted_in l) n in
-    let e : c.index.result.now.wide ≡ w = ap (λ x. x.wide) c.index.ensures ∙ wide_in l.nodes.items n c.args.need c.index.result.now l.listing c.requires in
+    let e : c.index.result.now.wide ≡ w = ap (λ x. x.wide) c.index.ensures
+    ∙ wide_in l.nodes.items n c.args.need c.index.result.now l.listing c.requires in
     let lt : c.index.result.now.wide < c.args.need = c.if-index-need.true in
     let m : c.args.need ≡ max w c.args.need = omega (arith, e, lt) in
     c.widen.ensures.noted ∙ ap (noted_at (noted_in l) n) m
@@ -25,7 +26,8 @@ returns-else-index-need-clause-noted c =
     let l = c.args.self.now in
     let n = c.args.node in
     let w = wide_at (noted_in l) n in
-    let e : c.index.result.now.wide ≡ w = ap (λ x. x.wide) c.index.ensures ∙ wide_in l.nodes.items n c.args.need c.index.result.now l.listing c.requires in
+    let e : c.index.result.now.wide ≡ w = ap (λ x. x.wide) c.index.ensures
+    ∙ wide_in l.nodes.items n c.args.need c.index.result.now l.listing c.requires in
     let ge : c.args.need ≤ c.index.result.now.wide = omega (arith, c.if-index-need.false) in
     let m : w ≡ max w c.args.need = omega (arith, e, ge) in
     sym (ap (noted_at (noted_in l) n) (sym m) ∙ noted_again (noted_in l) n c.args.need c.requires)

@@ -12,10 +12,15 @@ index_mut-requires c =
 pub invariant_of-self : goal.invariant_of-self
 invariant_of-self c =
     let l = c.args.self.now in
-    let n = bases_as l.version l.nodes.items c.args.node c.args.base (to_z w64 (of_z w64 c.args.base)) c.index_mut.result.now (to_z-of_z w64 c.args.base c.ranges.base) (second_of l.version c.requires.version) l.listing l.sound c.requires.leaf c.index_mut.ensures.value in
+    let n = bases_as l.version l.nodes.items c.args.node c.args.base (to_z w64 (of_z w64 c.args.base))
+    c.index_mut.result.now (to_z-of_z w64 c.args.base c.ranges.base)
+    (second_of l.version c.requires.version) l.listing l.sound c.requires.leaf
+    c.index_mut.ensures.value in
     record { listing = n.listing; sound = n.sound; relaxing = l.relaxing }
 
 pub returns-clause-noted : goal.returns-clause-noted
 returns-clause-noted c =
     let l = c.args.self.now in
-    (bases_as l.version l.nodes.items c.args.node c.args.base (to_z w64 (of_z w64 c.args.base)) c.index_mut.result.now (to_z-of_z w64 c.args.base c.ranges.base) (second_of l.version c.requires.version) l.listing l.sound c.requires.leaf c.index_mut.ensures.value).tells
+    (bases_as l.version l.nodes.items c.args.node c.args.base (to_z w64 (of_z w64 c.args.base))
+    c.index_mut.result.now (to_z-of_z w64 c.args.base c.ranges.base) (second_of l.version c.requires.version)
+    l.listing l.sound c.requires.leaf c.index_mut.ensures.value).tells

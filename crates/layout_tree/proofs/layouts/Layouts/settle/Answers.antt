@@ -14,7 +14,9 @@ invariant_of-self c =
     let l = c.args.self.now in
     let ns = l.nodes.items in
     let xs = c.deref_mut.result.now in
-    let s = settles l.version ns xs c.settle_part.new.nodes l.nodes.len c.settle_part.result c.deref_mut.ensures.value l.listing l.sound (omega (arith, l.nodes.ok.0)) (omega (arith, c.settle_part.auto.nodes, ap length c.deref_mut.ensures.value))
+    let s = settles l.version ns xs c.settle_part.new.nodes l.nodes.len c.settle_part.result
+    c.deref_mut.ensures.value l.listing l.sound (omega (arith, l.nodes.ok.0))
+    (omega (arith, c.settle_part.auto.nodes, ap length c.deref_mut.ensures.value))
     (c.settle_part.ensures (whole_segment l.version ns xs c.deref_mut.ensures.value l.listing l.sound)) in
     record { listing = s.listing; sound = s.sound; relaxing = l.relaxing }
 
@@ -23,16 +25,22 @@ returns-clause-layout c =
     let l = c.args.self.now in
     let ns = l.nodes.items in
     let xs = c.deref_mut.result.now in
-    let s = settles l.version ns xs c.settle_part.new.nodes l.nodes.len c.settle_part.result c.deref_mut.ensures.value l.listing l.sound (omega (arith, l.nodes.ok.0)) (omega (arith, c.settle_part.auto.nodes, ap length c.deref_mut.ensures.value))
+    let s = settles l.version ns xs c.settle_part.new.nodes l.nodes.len c.settle_part.result
+    c.deref_mut.ensures.value l.listing l.sound (omega (arith, l.nodes.ok.0))
+    (omega (arith, c.settle_part.auto.nodes, ap length c.deref_mut.ensures.value))
     (c.settle_part.ensures (whole_segment l.version ns xs c.deref_mut.ensures.value l.listing l.sound)) in
-    ap (λ (m : Layout). described (version_of l.version) l.relaxed m) (ap (layout_in (version_of l.version)) s.tells)
+    ap (λ (m : Layout). described (version_of l.version) l.relaxed m)
+    (ap (layout_in (version_of l.version)) s.tells)
 
 pub returns-clause-settled : goal.returns-clause-settled
 returns-clause-settled c =
     let l = c.args.self.now in
     let ns = l.nodes.items in
     let xs = c.deref_mut.result.now in
-    let s = settles l.version ns xs c.settle_part.new.nodes l.nodes.len c.settle_part.result c.deref_mut.ensures.value l.listing l.sound (omega (arith, l.nodes.ok.0)) (omega (arith, c.settle_part.auto.nodes, ap length c.deref_mut.ensures.value))
+    let s = settles l.version ns xs c.settle_part.new.nodes l.nodes.len c.settle_part.result
+    c.deref_mut.ensures.value l.listing l.sound (omega (arith, l.nodes.ok.0))
+    (omega (arith, c.settle_part.auto.nodes, ap length c.deref_mut.ensures.value))
     (c.settle_part.ensures (whole_segment l.version ns xs c.deref_mut.ensures.value l.listing l.sound)) in
     let twice = ap settled s.tells ∙ settled_twice (tree_of ns) ∙ sym s.tells in
-    ap (λ (m : Layout). described (version_of l.version) l.relaxed m) (ap (layout_in (version_of l.version)) twice)
+    ap (λ (m : Layout). described (version_of l.version) l.relaxed m)
+    (ap (layout_in (version_of l.version)) twice)

@@ -21,7 +21,8 @@ index-requires-in_default c =
     let s = sub (tree_of ns.items) c.args.node in
     let a = at_part ns.items s c.args.node l.listing c.requires.node in
     let x = c.index.result.now in
-    let holder = holds_items v s x.kind (kind_of_range v ns.items s c.args.node x a c.index.ensures c.requires.range) c.in_default.not-Text c.in_default.not-Bytes in
+    let holder = holds_items v s x.kind (kind_of_range v ns.items s c.args.node x a c.index.ensures
+    c.requires.range) c.in_default.not-Text c.in_default.not-Bytes in
     omega (arith, ns.ok.0, a.within, holder_nodes v s holder)
 
 pub returns-in-Text-clause-stride : goal.returns-in-Text-clause-stride
@@ -43,9 +44,11 @@ returns-in_default c =
     let a = at_part ns s c.args.node l.listing c.requires.node in
     let x = c.index.result.now in
     let y = c.index-in_default.result.now in
-    let holder = holds_items v s x.kind (kind_of_range v ns s c.args.node x a c.index.ensures c.requires.range) c.in_default.not-Text c.in_default.not-Bytes in
+    let holder = holds_items v s x.kind (kind_of_range v ns s c.args.node x a c.index.ensures
+    c.requires.range) c.in_default.not-Text c.in_default.not-Bytes in
     let e = ap (λ x. x.bits) c.index-in_default.ensures ∙ item_read v a y holder in
     record {
       stride = e ∙ item_is (layout_in v s) holder;
-      small = bound l.version (tree_of ns) s c.args.node y.bits 32767 l.sound c.requires.node (λ o. omega (arith, e, item_small v s o.legal o.narrow holder));
+      small = bound l.version (tree_of ns) s c.args.node y.bits 32767 l.sound c.requires.node
+          (λ o. omega (arith, e, item_small v s o.legal o.narrow holder));
     }

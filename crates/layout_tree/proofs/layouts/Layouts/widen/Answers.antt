@@ -12,16 +12,21 @@ index_mut-requires c =
 pub invariant_of-self : goal.invariant_of-self
 invariant_of-self c =
     let l = c.args.self.now in
-    let n = notes l.version l.nodes.items c.args.node c.args.width c.index_mut.result.now l.listing l.sound c.requires c.index_mut.ensures.value in
+    let n = notes l.version l.nodes.items c.args.node c.args.width c.index_mut.result.now l.listing l.sound
+    c.requires c.index_mut.ensures.value in
     record { listing = n.listing; sound = n.sound; relaxing = l.relaxing }
 
 pub returns-clause-noted : goal.returns-clause-noted
 returns-clause-noted c =
     let l = c.args.self.now in
-    (notes l.version l.nodes.items c.args.node c.args.width c.index_mut.result.now l.listing l.sound c.requires c.index_mut.ensures.value).tells
+    (notes l.version l.nodes.items c.args.node c.args.width c.index_mut.result.now l.listing l.sound
+    c.requires c.index_mut.ensures.value).tells
 
 pub returns-clause-layout : goal.returns-clause-layout
 returns-clause-layout c =
     let l = c.args.self.now in
     let v = version_of l.version in
-    ap (λ (m : Layout). described v l.relaxed m) (ap (layout_in v) (notes l.version l.nodes.items c.args.node c.args.width c.index_mut.result.now l.listing l.sound c.requires c.index_mut.ensures.value).tells ∙ noted_layout v (tree_of l.nodes.items) c.args.node c.args.width c.requires)
+    ap (λ (m : Layout). described v l.relaxed m)
+    (ap (layout_in v) (notes l.version l.nodes.items c.args.node c.args.width c.index_mut.result.now
+    l.listing l.sound c.requires c.index_mut.ensures.value).tells
+    ∙ noted_layout v (tree_of l.nodes.items) c.args.node c.args.width c.requires)

@@ -1,11 +1,18 @@
--- That a layout is one of its version within the limits is a fact once it is so under a truncation, since all that it is made of is.
-use Rattle.std.proofs.Common.{◌≡◌, ℕ, ◌≤◌, List, [], ◌∷◌, ℤ, pos, negsuc, arith}
+-- That a layout is one of its version within the limits is a fact once it is so under a truncation, since all
+-- that it is made of is.
+use Rattle.std.proofs.Common.{◌≡◌, ℕ, ◌≤◌, List, [], ◌∷◌, ℤ, pos, negsuc, Bool, true, false, arith, refl}
 use Rattle.std.proofs.Math.Logic.{∥∥₁_elim, ∥∥₁_map}
 use Rattle.std.proofs.Math.Bridge.{le_prop}
 use mathlib.Core.HLevel.{⊥_prop}
-use Rattle.frozen_model.specs.Trees.{Holder, AList, ASet, AMap, LeafKind, Flag, Integer, Leaf, ByteRange, ItemRange, Optional, Struct, NoField, Field, ids_of, value_bits, IsKey, IsPlain, IsItem, Rising, IsFormed, AllFormed, IsNarrow, AllNarrow, IsStruct}
+use Rattle.frozen_model.specs.Trees.{Holder, AList, ASet, AMap, LeafKind, Flag, Integer, Leaf, ByteRange}
+use Rattle.frozen_model.specs.Trees.{ItemRange, Optional, Struct, NoField, Field, ids_of, value_bits, IsKey}
+use Rattle.frozen_model.specs.Trees.{IsPlain, IsItem, Rising, IsFormed, AllFormed, IsNarrow, AllNarrow}
+use Rattle.frozen_model.specs.Trees.{IsStruct}
 use Rattle.frozen_model.specs.Values.{InBits}
-use Rattle.frozen_model.specs.Layouts.{Version, Version1, Version2, Coded, Unsigned, TwosComplement, FromBase, IsCoded, flag_coded, signed_coded, based_coded, Layout, Layouts, OfVersion, AllOfVersion, Legal, AllLegal, IsLayout}
+use Rattle.frozen_model.specs.Layouts.{Version, Version1, Version2, Coded, Unsigned, TwosComplement, FromBase}
+use Rattle.frozen_model.specs.Layouts.{IsCoded, flag_coded, signed_coded, based_coded, Layout, Layouts}
+use Rattle.frozen_model.specs.Layouts.{OfVersion, AllOfVersion, Legal, AllLegal, MayRelax, Described}
+use Rattle.frozen_model.specs.Layouts.{IsLayout, IsDescribed}
 
 le_held : {a b : ℕ} → ∥ a ≤ b ∥₁ → a ≤ b
 le_held h = ∥∥₁_elim h le_prop (λ x. x)
@@ -44,24 +51,47 @@ item_held AMap (ItemRange h d c l) i = never i
 item_held AMap (Optional w l) i = never i
 item_held AMap (Struct NoField) i = never i
 item_held AMap (Struct (Field n k NoField)) i = never i
-item_held AMap (Struct (Field n k (Field m v NoField))) i = (eq_held (∥∥₁_map i (λ x. x.0)), key_held k (∥∥₁_map i (λ x. x.1)), eq_held (∥∥₁_map i (λ x. x.2)), plain_held v (∥∥₁_map i (λ x. x.3)))
+item_held AMap (Struct (Field n k (Field m v NoField)))
+    i = (
+      eq_held (∥∥₁_map i (λ x. x.0)),
+      key_held k (∥∥₁_map i (λ x. x.1)),
+      eq_held (∥∥₁_map i (λ x. x.2)),
+      plain_held v (∥∥₁_map i (λ x. x.3)),
+    )
 item_held AMap (Struct (Field n k (Field m v (Field o w ls)))) i = never i
 
 rising_held : (b : ℕ) (is : List ℕ) → ∥ Rising b is ∥₁ → Rising b is
 rising_held b [] h = tt
-rising_held b (i ∷ is) h = (le_held (∥∥₁_map h (λ x. x.0)), le_held (∥∥₁_map h (λ x. x.1)), rising_held i is (∥∥₁_map h (λ x. x.2)))
+rising_held b (i ∷ is) h = (
+  le_held (∥∥₁_map h (λ x. x.0)),
+  le_held (∥∥₁_map h (λ x. x.1)),
+  rising_held i is
+      (∥∥₁_map h (λ x. x.2)),
+)
 
 mutual
   formed_held : (l : Layout) → ∥ IsFormed l ∥₁ → IsFormed l
   formed_held (Leaf k c) h = tt
   formed_held (ByteRange t d c) h = tt
-  formed_held (ItemRange g d c l) h = (item_held g l (∥∥₁_map h (λ x. x.0)), formed_held l (∥∥₁_map h (λ x. x.1)))
+  formed_held (ItemRange g d c l) h = (
+    item_held g l (∥∥₁_map h (λ x. x.0)),
+    formed_held l
+        (∥∥₁_map h (λ x. x.1)),
+  )
   formed_held (Optional w l) h = (plain_held l (∥∥₁_map h (λ x. x.0)), formed_held l (∥∥₁_map h (λ x. x.1)))
-  formed_held (Struct ls) h = (rising_held 0 (ids_of ls) (∥∥₁_map h (λ x. x.0)), all_formed_held ls (∥∥₁_map h (λ x. x.1)))
+  formed_held (Struct ls) h = (
+    rising_held 0 (ids_of ls) (∥∥₁_map h (λ x. x.0)),
+    all_formed_held ls
+        (∥∥₁_map h (λ x. x.1)),
+  )
 
   all_formed_held : (ls : Layouts) → ∥ AllFormed ls ∥₁ → AllFormed ls
   all_formed_held NoField h = tt
-  all_formed_held (Field i l ls) h = (formed_held l (∥∥₁_map h (λ x. x.0)), all_formed_held ls (∥∥₁_map h (λ x. x.1)))
+  all_formed_held (Field i l ls) h = (
+    formed_held l (∥∥₁_map h (λ x. x.0)),
+    all_formed_held ls
+        (∥∥₁_map h (λ x. x.1)),
+  )
 
 mutual
   narrow_held : (l : Layout) → ∥ IsNarrow l ∥₁ → IsNarrow l
@@ -73,7 +103,11 @@ mutual
 
   all_narrow_held : (ls : Layouts) → ∥ AllNarrow ls ∥₁ → AllNarrow ls
   all_narrow_held NoField h = tt
-  all_narrow_held (Field i l ls) h = (narrow_held l (∥∥₁_map h (λ x. x.0)), all_narrow_held ls (∥∥₁_map h (λ x. x.1)))
+  all_narrow_held (Field i l ls) h = (
+    narrow_held l (∥∥₁_map h (λ x. x.0)),
+    all_narrow_held ls
+        (∥∥₁_map h (λ x. x.1)),
+  )
 
 -- ---- widths and codings
 
@@ -81,13 +115,21 @@ mutual
   legal_held : (l : Layout) → ∥ Legal l ∥₁ → Legal l
   legal_held (Leaf k c) h = le_held h
   legal_held (ByteRange t d c) h = (le_held (∥∥₁_map h (λ x. x.0)), le_held (∥∥₁_map h (λ x. x.1)))
-  legal_held (ItemRange g d c l) h = (le_held (∥∥₁_map h (λ x. x.0)), le_held (∥∥₁_map h (λ x. x.1)), legal_held l (∥∥₁_map h (λ x. x.2)))
+  legal_held (ItemRange g d c l) h = (
+    le_held (∥∥₁_map h (λ x. x.0)),
+    le_held (∥∥₁_map h (λ x. x.1)),
+    legal_held l (∥∥₁_map h (λ x. x.2)),
+  )
   legal_held (Optional w l) h = (le_held (∥∥₁_map h (λ x. x.0)), legal_held l (∥∥₁_map h (λ x. x.1)))
   legal_held (Struct ls) h = all_legal_held ls h
 
   all_legal_held : (ls : Layouts) → ∥ AllLegal ls ∥₁ → AllLegal ls
   all_legal_held NoField h = tt
-  all_legal_held (Field i l ls) h = (legal_held l (∥∥₁_map h (λ x. x.0)), all_legal_held ls (∥∥₁_map h (λ x. x.1)))
+  all_legal_held (Field i l ls) h = (
+    legal_held l (∥∥₁_map h (λ x. x.0)),
+    all_legal_held ls
+        (∥∥₁_map h (λ x. x.1)),
+  )
 
 in_bits_held : (n : ℕ) (z : ℤ) → ∥ InBits n z ∥₁ → InBits n z
 in_bits_held n (pos m) h = le_held h
@@ -126,7 +168,11 @@ mutual
 
   all_version_held : (v : Version) (ls : Layouts) → ∥ AllOfVersion v ls ∥₁ → AllOfVersion v ls
   all_version_held v NoField h = tt
-  all_version_held v (Field i l ls) h = (version_held v l (∥∥₁_map h (λ x. x.0)), all_version_held v ls (∥∥₁_map h (λ x. x.1)))
+  all_version_held v (Field i l ls) h = (
+    version_held v l (∥∥₁_map h (λ x. x.0)),
+    all_version_held v ls
+        (∥∥₁_map h (λ x. x.1)),
+  )
 
 -- ---- layouts
 
@@ -137,7 +183,7 @@ root_held (ByteRange t d c) h = never h
 root_held (ItemRange g d c l) h = never h
 root_held (Optional w l) h = never h
 
-pub layout_held : (v : Version) (l : Layout) → ∥ IsLayout v l ∥₁ → IsLayout v l
+layout_held : (v : Version) (l : Layout) → ∥ IsLayout v l ∥₁ → IsLayout v l
 layout_held v l h = record {
   root = root_held l (∥∥₁_map h (λ x. x.root));
   kind_tree = record {
@@ -148,4 +194,15 @@ layout_held v l h = record {
   };
   coded = version_held v l (∥∥₁_map h (λ x. x.coded));
   legal = legal_held l (∥∥₁_map h (λ x. x.legal));
+}
+
+relaxing_held : (v : Version) (r : Bool) → ∥ MayRelax v r ∥₁ → MayRelax v r
+relaxing_held Version2 r h = tt
+relaxing_held Version1 false h = refl
+relaxing_held Version1 true h = absurd (never (∥∥₁_map h (λ e. (let no : true ≡ false = e in absurd cc))))
+
+pub described_held : (d : Described) → ∥ IsDescribed d ∥₁ → IsDescribed d
+described_held d h = record {
+  relaxing = relaxing_held d.version d.relaxed (∥∥₁_map h (λ x. x.relaxing));
+  layout = layout_held d.version d.tree (∥∥₁_map h (λ x. x.layout));
 }

@@ -6,7 +6,7 @@ use Rattle.idl_profile.specs.declared.kinds.TypeKind.TheVariants as kinds
 use Rattle.idl_profile.specs.Types.{TypeTree, scalar, text, bytes, list_of, set_of, map_of, named, enum_of, struct_of, kind_of, flag, i8, i16, i32, i64}
 use Rattle.idl_parse.specs.Refs.{element_of, key_of, value_of}
 use Rattle.frozen_model.specs.Values as is
-use Rattle.frozen_model.specs.Values.{Value, Truth, Number, One, Bytes, Items, Record, Of, InBits}
+use Rattle.frozen_model.specs.Values.{Value, Truth, Number, One, Of, InBits}
 use Rattle.type_kinds.specs.KindsOf.{kinds_of}
 use Rattle.compact_wire.specs.Node as node
 use Rattle.compact_wire.specs.Node.{Node}

@@ -3,3 +3,12 @@ pub mod Rest
 pub mod Spelled
 pub mod Listed
 pub mod ReadBack
+pub mod Clean
+pub mod Joins
+pub mod Rows
+pub mod Loops
+pub mod Gathered
+pub mod Structs
+pub mod Finish
+pub mod Complete
+pub mod Decoded

@@ -10,9 +10,9 @@ use Rattle.idl_profile.specs.declared.kinds.Need.{Need}
 use Rattle.idl_profile.specs.declared.kinds.Need.TheVariants.{Plain, Required, Optional}
 use Rattle.idl_profile.specs.Types as types
 use Rattle.idl_profile.specs.Types.{TypeTree, scalar, text, bytes, list_of, set_of, map_of, named, Named, enum_of, struct_of, DefField, field_list}
-use Rattle.frozen_model.specs.Trees.{KindTree, ids_of, Rising, AList, ASet, AMap}
+use Rattle.frozen_model.specs.Trees.{KindTree, Rising, AList, ASet, AMap}
 use Rattle.frozen_model.specs.Values as is
-use Rattle.frozen_model.specs.Values.{Value, Values, Truth, Number, One, Bytes, Items, Present, Absent, Record, NoValue, And, Of, OfEach, none, more, OfAll, no_part, part, record_of, key_of}
+use Rattle.frozen_model.specs.Values.{Value, Values, Truth, Number, Items, Present, Absent, Record, NoValue, And, Of, OfEach, none, more, OfAll, no_part, part, record_of, key_of}
 use Rattle.type_kinds.specs.KindsOf.{kinds_of, kinds_of_fields}
 use Rattle.type_kinds.specs.Accepted.{IsAccepted, AreAccepted, IsKeyType}
 use Rattle.type_kinds.specs.Defaults.{ids_of_fields}
@@ -33,6 +33,7 @@ use Rattle.typed_reading.specs.Faults.{has_id, type_of_field, type_in, of_field,
 use Rattle.typed_reading.specs.Meaning.{given, under, field_value, reading, readings, meaning, meanings, meanings_of_pairs, Typed}
 use Rattle.typed_reading.specs.declared.fault.NodeFault.TheVariants.{MissingRequired, WrongType, BadText, RepeatedKey}
 use Rattle.typed_reading.proofs.Keyed.{same_is}
+use Rattle.typed_reading.proofs.Valued.{ids_are}
 use Rattle.compact_codec.specs.Wire.{wire, wire_of_fields, each, each_pair, map_with}
 use Rattle.compact_codec.proofs.Listed.{listed, row-listed, ranked-listed, rising-in_order}
 
@@ -343,12 +344,6 @@ values-are low (types.field i w Optional t d fs) _ rs r (part {vs = vs} (is.pres
     let rest = values-are (nat_abs i) fs vs rs r.2 hs (left-next low i v fs vs rs r.0 left) in
     ap (λ o. And (given Optional o Absent) (row (map (field_value rs) (field_list fs)))) (left-here low i v fs vs rs r.0 left) ∙ ap (And (Present v)) rest
 
-ids-are : (fs : types.Fields) → natural_ids (field_list fs) ≡ ids_of (kinds_of_fields fs)
-ids-are types.no_fields = refl
-ids-are (types.field i w Plain t d fs) = ap (λ ids. nat_abs i ∷ ids) (ids-are fs)
-ids-are (types.field i w Required t d fs) = ap (λ ids. nat_abs i ∷ ids) (ids-are fs)
-ids-are (types.field i w Optional t d fs) = ap (λ ids. nat_abs i ∷ ids) (ids-are fs)
-
 reading-is : (low : ℕ) (i : ℤ) (w : List ℕ) (n : Need) (t : TypeTree) (d : types.Default) (fs : types.Fields) (all : List DefField) (x : Node) (v : Value) (xs : Fields) (rs : List (ℤ × Value)) → low < nat_abs i → Known low (types.field i w n t d fs) all
     → meaning x t ≡ v → readings xs all ≡ rs → readings (field i x xs) all ≡ (i, v) ∷ rs
 reading-is low i w n t d fs all x v xs rs lt known one others =
@@ -382,7 +377,7 @@ mutual
       let all = field_list fs in
       let rs = fields-back 0 fs all vs a.2 a.0 hs (λ id lt. refl) in
       ap (λ us. Record (natural_ids all) (row (map (field_value us) all))) rs
-      ∙ ap (Record (natural_ids all)) (values-are 0 fs vs (all_standing fs vs) a.0 hs (λ id lt. refl)) ∙ ap (λ is. Record is vs) (ids-are fs ∙ sym e)
+      ∙ ap (Record (natural_ids all)) (values-are 0 fs vs (all_standing fs vs) a.0 hs (λ id lt. refl)) ∙ ap (λ is. Record is vs) (ids_are fs ∙ sym e)
 
   fields-back : (low : ℕ) (fs : types.Fields) (all : List DefField) (vs : Values) → AreAccepted Any fs → Rising low (ids_of_fields fs) → OfAll (kinds_of_fields fs) vs → Known low fs all → readings (wire_of_fields fs vs) all ≡ all_standing fs vs
   fields-back low types.no_fields all _ a r no_part known = refl

@@ -9,7 +9,7 @@ use Rattle.idl_profile.specs.Types as types
 use Rattle.idl_profile.specs.Types.{TypeTree, scalar, text, bytes, list_of, set_of, map_of, named, enum_of, struct_of, DefField, field_list, kind_of, flag, i8, i16, i32, i64}
 use Rattle.frozen_model.specs.Values.{Value, Values, NoValue, And, count, nth}
 use Rattle.compact_wire.specs.Node as node
-use Rattle.compact_wire.specs.Node.{Node, Nodes, Pairs, no_pairs, pair, Fields}
+use Rattle.compact_wire.specs.Node.{Node, Pairs, no_pairs, pair, Fields}
 use Rattle.compact_wire.specs.Number.{shortest}
 use Rattle.compact_wire.specs.Canon.{nodes_count, pairs_count, sequence_header, field_header, canon, canon_items, canon_pairs, canon_fields}
 use Rattle.compact_wire.specs.Writes.{canon_field}

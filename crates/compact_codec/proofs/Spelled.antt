@@ -10,7 +10,7 @@ use Rattle.idl_profile.specs.declared.kinds.TypeKind.TheVariants as kinds
 use Rattle.idl_profile.specs.Measures.{depth, depths}
 use Rattle.frozen_model.specs.Trees.{KindTree, Rising}
 use Rattle.frozen_model.specs.Values as is
-use Rattle.frozen_model.specs.Values.{Value, Values, Truth, Number, One, NoValue, And, count, nth, Of, OfEach, none, more, OfAll, no_part, part, record_of, InBits}
+use Rattle.frozen_model.specs.Values.{Value, Values, Truth, Number, NoValue, And, count, Of, OfEach, none, more, OfAll, no_part, part, record_of, InBits}
 use Rattle.type_kinds.specs.KindsOf.{kinds_of, kinds_of_fields}
 use Rattle.type_kinds.specs.Accepted.{IsAccepted, AreAccepted}
 use Rattle.type_kinds.specs.Defaults.{ids_of_fields}
@@ -19,7 +19,7 @@ use Rattle.typed_tree.specs.Ranges.{pair_kinds}
 use Rattle.compact_wire.specs.declared.kind.Kind.{Kind}
 use Rattle.compact_wire.specs.declared.kind.Kind.TheVariants as k
 use Rattle.compact_wire.specs.Node as node
-use Rattle.compact_wire.specs.Node.{Node, Nodes, Fields, field}
+use Rattle.compact_wire.specs.Node.{Node, Fields, field}
 use Rattle.compact_wire.specs.Number.{digits_128, IsVarint, IsNumber, zigzag}
 use Rattle.compact_wire.specs.Codes.{code_of}
 use Rattle.compact_wire.specs.Canon.{byte_of, FitsWire}

@@ -1,2 +1,4 @@
 pub mod Wire
+pub mod Decoding
 pub mod Laws
+pub mod Building

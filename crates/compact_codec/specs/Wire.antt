@@ -3,7 +3,8 @@ use Rattle.std.specs.Prelude.{ℕ, ℤ, pos, List, [], Bool, false}
 use Rattle.idl_profile.specs.declared.kinds.Need.{Need}
 use Rattle.idl_profile.specs.declared.kinds.Need.TheVariants.{Plain, Required, Optional}
 use Rattle.idl_profile.specs.Types as types
-use Rattle.idl_profile.specs.Types.{TypeTree, scalar, text, bytes, list_of, set_of, map_of, named, Named, enum_of, struct_of, Scalar}
+use Rattle.idl_profile.specs.Types.{TypeTree, scalar, text, bytes, list_of, set_of, map_of, named}
+use Rattle.idl_profile.specs.Types.{Named, enum_of, struct_of, Scalar}
 use Rattle.frozen_model.specs.Values.{Value, Truth, Number, One, Bytes, Present, Values, NoValue, And, nth}
 use Rattle.compact_wire.specs.Node.{Node, flag, i8, i16, i32, i64, binary, list, set, map, structure}
 use Rattle.compact_wire.specs.Node.{Nodes, no_nodes, node, Pairs, no_pairs, pair, Fields, no_fields, field}

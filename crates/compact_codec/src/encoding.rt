@@ -21,11 +21,12 @@ use compact_wire::{
 };
 use std::alloc::{AllocError, Global};
 use thrift_idl::{FieldRef, Need, TypeKind, TypeRef};
+use typed_reading::code;
 use typed_tree::{TreeKind, TreeRef};
 
-/// The canonical spelling of a value of the type: fields by rising id, an absent optional left out and every other field
-/// written; shortest numbers, and short headers where they can stand; sets and maps in the order of their keys. It goes
-/// as deep as the type, and makes no tree of the wire.
+/// The canonical spelling of a value of the type: fields by rising id, an absent optional left out and
+/// every other field written; shortest numbers, and short headers where they can stand; sets and maps in
+/// the order of their keys. It goes as deep as the type, and makes no tree of the wire.
 pub fn encode(alloc: Global, ty: TypeRef<'_>, v: TreeRef<'_>) -> Result<Vec<u8>, AllocError>
     requires { Of (kinds_of (type_of_ref ty)) (value_of_ref v) }
     ensures { IfOk result (λ out. out.items ≡ canon (wire (type_of_ref ty.entry) (value_of_ref v.entry))) }
@@ -33,27 +34,6 @@ pub fn encode(alloc: Global, ty: TypeRef<'_>, v: TreeRef<'_>) -> Result<Vec<u8>,
     let mut out = Vec::new(alloc);
     push_value(&mut out, ty, v)?;
     Ok(out)
-}
-
-// The type code of a type's values; an enum is an i32.
-fn code(ty: TypeRef<'_>) -> u8
-    ensures is { result ≡ code_in (type_of_ref ty.entry) }
-    ensures small { result < 16 }
-{
-    match ty.kind() {
-        TypeKind::Flag => 1,
-        TypeKind::I8 => 3,
-        TypeKind::I16 => 4,
-        TypeKind::I32 => 5,
-        TypeKind::I64 => 6,
-        TypeKind::Enum => 5,
-        TypeKind::Text => 8,
-        TypeKind::Bytes => 8,
-        TypeKind::List => 9,
-        TypeKind::Set => 10,
-        TypeKind::Map => 11,
-        TypeKind::Struct => 12,
-    }
 }
 
 // A flag that is no field.
@@ -76,7 +56,8 @@ fn push_byte(out: &mut Vec<u8>, x: i64) -> Result<(), AllocError>
 // A number of more bits.
 fn push_int(out: &mut Vec<u8>, v: TreeRef<'_>) -> Result<(), AllocError>
     requires { IsInt (value_of_ref v) }
-    ensures { OnOk result (out.new.items ≡ out.old.items ++ shortest (zigzag_of (number_in (value_of_ref v.entry)))) }
+    ensures { OnOk result (out.new.items
+        ≡ out.old.items ++ shortest (zigzag_of (number_in (value_of_ref v.entry)))) }
 {
     push_number(out, zigzag(v.int()))
 }
@@ -85,7 +66,8 @@ fn push_int(out: &mut Vec<u8>, v: TreeRef<'_>) -> Result<(), AllocError>
 #[cycle(encode)]
 fn push_value(out: &mut Vec<u8>, ty: TypeRef<'_>, v: TreeRef<'_>) -> Result<(), AllocError>
     requires { Of (kinds_of (type_of_ref ty)) (value_of_ref v) }
-    ensures { OnOk result (out.new.items ≡ out.old.items ++ canon (wire (type_of_ref ty.entry) (value_of_ref v.entry))) }
+    ensures { OnOk result (out.new.items
+        ≡ out.old.items ++ canon (wire (type_of_ref ty.entry) (value_of_ref v.entry))) }
 {
     match ty.kind() {
         TypeKind::Flag => push_flag(out, v.flag()),
@@ -131,7 +113,8 @@ fn push_map(
     requires items { let kinds = pair_kinds (kinds_of (type_of_ref key)) (kinds_of (type_of_ref value)) in
         OfEach kinds (items_of (value_of_ref map)) }
     ensures { let k = type_of_ref key.entry in let v = type_of_ref value.entry in OnOk result (out.new.items
-        ≡ out.old.items ++ canon (map_with (code_in k) (code_in v) (each_pair (wire k) (wire v) (items_of (value_of_ref map.entry))))) }
+        ≡ out.old.items ++ canon (map_with (code_in k) (code_in v)
+        (each_pair (wire k) (wire v) (items_of (value_of_ref map.entry))))) }
 {
     let count = map.len();
     if count == 0 {
@@ -153,7 +136,8 @@ fn push_map(
 fn push_fields(out: &mut Vec<u8>, ty: TypeRef<'_>, v: TreeRef<'_>) -> Result<(), AllocError>
     requires kind { kind_of (type_of_ref ty) ≡ TypeKind.Struct }
     requires value { Of (kinds_of (type_of_ref ty)) (value_of_ref v) }
-    ensures { OnOk result (out.new.items ≡ out.old.items ++ canon (wire (type_of_ref ty.entry) (value_of_ref v.entry))) }
+    ensures { OnOk result (out.new.items
+        ≡ out.old.items ++ canon (wire (type_of_ref ty.entry) (value_of_ref v.entry))) }
 {
     let mut before = FieldBefore { id: 0 };
     for i in 0..ty.field_count() {
@@ -163,8 +147,8 @@ fn push_fields(out: &mut Vec<u8>, ty: TypeRef<'_>, v: TreeRef<'_>) -> Result<(),
     Ok(())
 }
 
-// A field with its value behind the field before, and the field that stands before the next one. An optional that is not
-// present is left out.
+// A field with its value behind the field before, and the field that stands before the next one. An
+// optional that is not present is left out.
 #[cycle(encode)]
 fn push_field(
     out: &mut Vec<u8>,
@@ -175,7 +159,8 @@ fn push_field(
     requires { let f = field_of_ref field in Of (field_kinds f.need f.type) (value_of_ref v) }
     ensures { let f = field_of_ref field.entry in IfOk result (λ last. (xs : Fields)
         → out.new.items ++ canon_fields last.id xs
-        ≡ out.old.items ++ canon_fields before.id (with_field f.need f.id (wire f.type) (value_of_ref v.entry) xs)) }
+        ≡ out.old.items ++ canon_fields before.id
+        (with_field f.need f.id (wire f.type) (value_of_ref v.entry) xs)) }
 {
     match field.need() {
         Need::Optional => match v.kind() {

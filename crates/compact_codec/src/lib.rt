@@ -1,11 +1,16 @@
 //! Values of a definition's types to and from Compact Protocol.
 #![tactic(auto)]
 
+mod building;
+mod decoding;
 mod encoding;
+mod fields;
 mod laws;
+mod leaves;
 
+pub use decoding::decode;
 pub use encoding::encode;
-pub use laws::encoding_is_typed;
+pub use laws::{encoding_decodes, encoding_is_typed};
 
 #[cfg(test)]
 mod tests;

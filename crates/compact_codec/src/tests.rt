@@ -1,24 +1,27 @@
-//! What no clause says: that a value is written where there is memory.
+//! What no clause says: that a value is read and written where there is memory.
 
-use super::encode;
+use super::{decode, encode};
 use std::test::Fail;
-use thrift_idl::{Need, TypeKind, parse};
-use typed_tree::Builder;
+use thrift_idl::parse;
 
+// The items of the set stand out of order, and field 5 does not stand. They are written by rising key, and
+// with its default.
 #[test]
-fn a_number(rt: HostRuntime) -> Result<(), Fail> {
-    let def = parse(rt.alloc(), b"struct S {1: i64 n}")?;
+fn a_value(rt: HostRuntime) -> Result<(), Fail> {
+    let def = parse(
+        rt.alloc(),
+        b"struct S {1: list<i32> l, 2: set<i32> s, 3: map<string, i64> m, 4: optional i16 o, 5: i32 d = 7}",
+    )?;
     let ty = def.root();
-    assert_eq!(rt; ty.field_count(), 1);
-    let field = ty.field_at(0);
-    assert_eq!(rt; field.id(), 1);
-    assert_eq!(rt; field.need(), Need::Plain);
-    assert_eq!(rt; field.ty().kind(), TypeKind::I64);
-    let mut builder = Builder::new(rt.alloc());
-    builder.int(7)?;
-    builder.structure(&[1])?;
-    let tree = builder.finish();
+    let tree = decode(
+        rt.alloc(),
+        ty,
+        b"\x19\x25\x06\x01\x1a\x25\x0a\x04\x1b\x01\x86\x01k\x12\x14\xd8\x04\x00",
+    )?;
     let bytes = encode(rt.alloc(), ty, tree.top())?;
-    assert_eq!(rt; bytes.as_slice(), b"\x16\x0e\x00".as_slice());
+    assert_eq!(rt;
+        bytes.as_slice(),
+        b"\x19\x25\x06\x01\x1a\x25\x04\x0a\x1b\x01\x86\x01k\x12\x14\xd8\x04\x15\x0e\x00".as_slice()
+    );
     Ok(())
 }

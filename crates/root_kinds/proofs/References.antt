@@ -2,6 +2,7 @@
 use Rattle.std.proofs.Common.{◌≡◌, ℕ, zero, suc, ◌<◌, Bool, true, false, ◌&&◌, if◌then◌else◌, List, [], ◌∷◌, ◌++◌, take, length, get_or, Option, Some, None, refl, sym, ap, ◌∙◌, subst, arith, append_assoc, append-nil}
 use Rattle.std.specs.Prelude.{ℤ, int_lt, find, string_bytes}
 use Rattle.std.specs.List.{Contains, list_all}
+use Rattle.std.specs.Str.{IsUtf8}
 use Rattle.std.specs.Ordering.{int_eq}
 use Rattle.std.proofs.Math.Logic.{∥∥₁_elim, ∥∥₁_map}
 use Rattle.std.proofs.Math.Nat.{ℕ_set}
@@ -47,33 +48,41 @@ any x l = tt
 
 -- ---- the enums and structs before a number
 
-fit_taken : (before ns : List m.MeantNamed) (j : ℕ) → AllFit before ns → AllFit before (take j ns)
+pub fit_taken : (before ns : List m.MeantNamed) (j : ℕ) → AllFit before ns → AllFit before (take j ns)
 fit_taken before [] zero h = tt
 fit_taken before [] (suc j) h = tt
 fit_taken before (x ∷ ns) zero h = tt
 fit_taken before (x ∷ ns) (suc j) h = (h.0, h.1, fit_taken (before ++ x ∷ []) ns j h.2)
 
-is_proper : (d : Definition) → IsProper (meant_of d)
+pub is_proper : (d : Definition) → IsProper (meant_of d)
 is_proper d = proper-from (string_bytes d.text) (meant_of d) (IsUtf8-string_bytes d.text) (tokens-had (tokens (string_bytes d.text)) (meant_of d) d.meant)
 
-stand_before : (d : Definition) (j : ℕ) → Trees Any any (take j (meant_of d)) (visible d j)
-stand_before d j = proper.all_stand Any any [] (take j (meant_of d)) (proper.none_stand Any any) (fit_taken [] (meant_of d) j (is_proper d))
+module _ (P : List ℕ → Type 0) (literal : (x : List ℕ) → IsLiteral x → P x) where
+  stand_before : (d : Definition) (j : ℕ) → Trees P literal (take j (meant_of d)) (visible d j)
+  stand_before d j = proper.all_stand P literal [] (take j (meant_of d)) (proper.none_stand P literal) (fit_taken [] (meant_of d) j (is_proper d))
 
--- ---- structs
+  -- ---- structs
 
-accepted_struct : (ts : List TypeTree) → ((i : ℕ) → IsWithin Any (at ts i)) → (t : m.Ty) → kind_of (tree ts t) ≡ kinds.Struct → IsAccepted Any (tree ts t)
-accepted_struct ts all (m.scalar s) e = (proper.base_typed Any any false s).accepted
-accepted_struct ts all (m.enum i) e = (all i).accepted
-accepted_struct ts all (m.struct i) e = (all i).accepted
-accepted_struct ts all (m.list x) e = absurd cc
-accepted_struct ts all (m.set x) e = absurd cc
-accepted_struct ts all (m.map x y) e = absurd cc
+  accepted_struct : (ts : List TypeTree) → ((i : ℕ) → IsWithin P (at ts i)) → (t : m.Ty) → kind_of (tree ts t) ≡ kinds.Struct → IsAccepted P (tree ts t)
+  accepted_struct ts all (m.scalar s) e = (proper.base_typed P literal false s).accepted
+  accepted_struct ts all (m.enum i) e = (all i).accepted
+  accepted_struct ts all (m.struct i) e = (all i).accepted
+  accepted_struct ts all (m.list x) e = absurd cc
+  accepted_struct ts all (m.set x) e = absurd cc
+  accepted_struct ts all (m.map x y) e = absurd cc
+
+  struct_ref_accepted : (r : TypeRef) → kind_of (type_of_ref r) ≡ kinds.Struct → IsAccepted P (type_of_ref r)
+  struct_ref_accepted r e =
+      let d = r.def.now in
+      accepted_struct (visible d r.within) (stand_before d r.within).all (node_type (types_in d.types) r.node) e
 
 -- each struct that a reference stands for is accepted
 pub struct_ref_is_accepted : (r : TypeRef) → kind_of (type_of_ref r) ≡ kinds.Struct → IsAccepted Any (type_of_ref r)
-struct_ref_is_accepted r e =
-    let d = r.def.now in
-    accepted_struct (visible d r.within) (stand_before d r.within).all (node_type (types_in d.types) r.node) e
+struct_ref_is_accepted r e = struct_ref_accepted Any any r e
+
+-- and its written texts are UTF-8
+pub struct_ref_is_utf8 : (r : TypeRef) → kind_of (type_of_ref r) ≡ kinds.Struct → IsAccepted IsUtf8 (type_of_ref r)
+struct_ref_is_utf8 r e = struct_ref_accepted IsUtf8 (λ x l. l.1) r e
 
 -- ---- fields
 
@@ -147,5 +156,5 @@ field_ref_is_accepted r =
     let types = types_in d.types in
     let before = take r.within (meant_of d) in
     of_listed (Accepts text types (trees before)) (fields_at d.named.items r.within) r.field.now
-    (found_accepted text types before (stand_before d r.within) (fields_at d.named.items r.within) (fit_at text types [] d.named.items r.within (is_proper d)))
+    (found_accepted text types before (stand_before Any any d r.within) (fields_at d.named.items r.within) (fit_at text types [] d.named.items r.within (is_proper d)))
     (rising_at d.named.items r.within (all-rise d)) r.listed

@@ -19,4 +19,5 @@ mod Totals
 pub mod CountSteps
 pub mod Answering
 pub mod Checks
+mod OwnValues
 pub mod Valued

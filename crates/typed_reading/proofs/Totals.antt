@@ -3,7 +3,6 @@ use Rattle.std.proofs.Common.{◌≡◌, ℕ, suc, ◌+◌, ◌<◌, ◌≤◌, 
 use Rattle.std.specs.Prelude.{ℤ, nat_abs, find, option_map}
 use Rattle.std.specs.List.{AllByRecursion, sum_by}
 use Rattle.std.specs.Ordering.{int_eq}
-use Rattle.std.proofs.lemmas.List.Sorted.{sum_by-IsPermutation}
 use Rattle.std.proofs.lemmas.List.Sums.{sum_by-cons}
 use Rattle.frozen_model.specs.Trees as tree
 use Rattle.frozen_model.specs.Trees.{KindTree, KindTrees, Struct, Field, NoField, Rising}
@@ -16,7 +15,6 @@ use Rattle.idl_profile.specs.declared.kinds.Need.TheVariants.{Plain, Required, O
 use Rattle.idl_profile.specs.Types.{TypeTree, Fields, no_fields, field, DefField, field_list, fields_of}
 use Rattle.idl_parse.specs.Refs.{element_of, key_of as key_type, value_of as value_type}
 use Rattle.key_order.specs.InOrder.{row, in_order}
-use Rattle.key_order.proofs.Insertion.{order_moves}
 use Rattle.type_kinds.specs.KindsOf.{kinds_of, kinds_of_fields}
 use Rattle.type_kinds.specs.Defaults.{ids_of_fields}
 use Rattle.type_kinds.specs.Accepted.{IsAccepted, AreAccepted}
@@ -31,7 +29,7 @@ use Rattle.typed_reading.specs.Meaning.{given, under, field_value, reading, mean
 use Rattle.typed_reading.specs.Counts.{count_of, nothing, together, by_need, default_count, defaults_beside, of_known, total, totals, totals_of_pairs, totals_of_fields, a_holder, a_struct, an_item}
 use Rattle.typed_reading.proofs.FieldLaws.{int_eq_same, int_eq_refl}
 use Rattle.typed_reading.proofs.Sums.{count_is, first_nothing}
-use Rattle.typed_reading.proofs.Valued.{HasCode, flag_is, i8_is, i16_is, i32_is, enum_is, i64_is, text_is, bytes_is, list_is, set_is, map_is, struct_is, none_of, clean_own, clean_below, no_double}
+use Rattle.typed_reading.proofs.Valued.{HasCode, flag_is, i8_is, i16_is, i32_is, enum_is, i64_is, text_is, bytes_is, list_is, set_is, map_is, struct_is, none_of, clean_own, clean_below, no_double, moved_sum, moved_cells, pair_kinds}
 
 -- the count of a value of some kinds
 abbrev pub weigh : KindTree → Value → Checked
@@ -47,13 +45,6 @@ regroup a b c = count_is _ _ _ _ _ _ (omega arith) (omega arith) (omega arith)
 
 -- ---- items and pairs
 
-abbrev item_cells : KindTree → Value → ℕ
-item_cells k v = 1 + cells k v
-
-cells_of_row : (k : KindTree) (vs : List Value) → cells_each k (row vs) ≡ sum_by (item_cells k) vs
-cells_of_row k [] = refl
-cells_of_row k (v ∷ vs) = ap (λ n. item_cells k v + n) (cells_of_row k vs) ∙ sym (sum_by-cons (item_cells k) v vs)
-
 nodes_of_row : (vs : List Value) → nodes_of_all (row vs) ≡ sum_by nodes_of vs
 nodes_of_row [] = refl
 nodes_of_row (v ∷ vs) = ap (λ n. nodes_of v + n) (nodes_of_row vs) ∙ sym (sum_by-cons nodes_of v vs)
@@ -66,10 +57,6 @@ bytes_of_row : (vs : List Value) → bytes_of_all (row vs) ≡ sum_by bytes_of v
 bytes_of_row [] = refl
 bytes_of_row (v ∷ vs) = ap (λ n. bytes_of v + n) (bytes_of_row vs) ∙ sym (sum_by-cons bytes_of v vs)
 
--- the sums of values in the order of their keys are theirs
-moved_sum : (f : Value → ℕ) (vs : List Value) → sum_by f vs ≡ sum_by f (in_order vs)
-moved_sum f vs = sym (sum_by-IsPermutation f vs (in_order vs) (order_moves vs))
-
 abbrev items_weight : KindTree → List Value → Checked
 items_weight k vs = count_of (cells_each k (row vs)) (nodes_of_all (row vs)) (bytes_of_all (row vs))
 
@@ -78,18 +65,15 @@ pairs_weight k vs = count_of (cells_each k (row vs)) (nodes_of_pairs (row vs)) (
 
 moved_items : (k : KindTree) (vs : List Value) → items_weight k vs ≡ items_weight k (in_order vs)
 moved_items k vs =
-    count_is _ _ _ _ _ _ (cells_of_row k vs ∙ moved_sum (item_cells k) vs ∙ sym (cells_of_row k (in_order vs)))
+    count_is _ _ _ _ _ _ (moved_cells k vs)
     (nodes_of_row vs ∙ moved_sum nodes_of vs ∙ sym (nodes_of_row (in_order vs)))
     (bytes_of_row vs ∙ moved_sum bytes_of vs ∙ sym (bytes_of_row (in_order vs)))
 
 moved_pairs : (k : KindTree) (vs : List Value) → pairs_weight k vs ≡ pairs_weight k (in_order vs)
 moved_pairs k vs =
-    count_is _ _ _ _ _ _ (cells_of_row k vs ∙ moved_sum (item_cells k) vs ∙ sym (cells_of_row k (in_order vs)))
+    count_is _ _ _ _ _ _ (moved_cells k vs)
     (nodes_of_pair_row vs ∙ moved_sum nodes_of_parts vs ∙ sym (nodes_of_pair_row (in_order vs)))
     (bytes_of_row vs ∙ moved_sum bytes_of vs ∙ sym (bytes_of_row (in_order vs)))
-
-abbrev pair_kinds : TypeTree → TypeTree → KindTree
-pair_kinds x y = Struct (Field 1 (kinds_of x) (Field 2 (kinds_of y) NoField))
 
 -- ---- fields
 

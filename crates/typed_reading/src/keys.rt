@@ -26,7 +26,7 @@ use std::alloc::Global;
 
 /// A key of a kind, and the bytes after it.
 #[tactic(auto, unfolding(compact_wire::specs::Reads::scalar, compact_wire::specs::Reads::element_flag, compact_wire::specs::Reads::signed_byte))]
-fn read_key(kind: Kind, bytes: &[u8]) -> Result<(Key<'_>, &[u8]), Stop>
+pub fn read_key(kind: Kind, bytes: &[u8]) -> Result<(Key<'_>, &[u8]), Stop>
     requires { IsKeyKind kind }
     ensures reads { Meets (λ x. (value_of x.0, x.1.now)) result (seen key_value (scalar kind bytes.now)) }
     ensures shorter { IfOk result (λ x. length x.1.now < length bytes.now) }

@@ -1,6 +1,6 @@
 //! Codes of types.
 
-ghost use Rattle.std.specs.Prelude.{◌≡◌, ◌||◌, ◌&&◌, nat_eq};
+ghost use Rattle.std.specs.Prelude.{◌≡◌, ◌<◌, ◌||◌, ◌&&◌, nat_eq};
 ghost use Rattle.compact_wire.specs.Codes.{code_of as wire_code};
 ghost use Rattle.idl_parse.specs.Refs.{type_of_ref};
 ghost use Rattle.typed_reading.specs.Codes.{code as type_code};
@@ -10,7 +10,8 @@ use compact_wire::{Kind, PairKinds, code_of};
 use idl_parse::{TypeKind, TypeRef};
 
 fn kind_code(kind: TypeKind) -> u8
-    ensures { result ≡ code_of_kind kind }
+    ensures is { result ≡ code_of_kind kind }
+    ensures small { result < 16 }
 {
     match kind {
         TypeKind::Flag => 1,
@@ -26,10 +27,11 @@ fn kind_code(kind: TypeKind) -> u8
     }
 }
 
-/// The code of a type's values.
+/// The code of a type's values; an enum is an i32. docs/COMPACT.md has the codes.
 #[tactic(auto, using(crate::proofs::TypeLaws::code_is))]
 pub fn code(ty: TypeRef<'_>) -> u8
-    ensures { result ≡ type_code (type_of_ref ty.entry) }
+    ensures is { result ≡ type_code (type_of_ref ty.entry) }
+    ensures small { result < 16 }
 {
     kind_code(ty.kind())
 }

@@ -11,7 +11,6 @@ use Rattle.idl_parse.specs.Refs.{type_of_ref, field_of_ref, key_of, value_of}
 use Rattle.frozen_model.specs.Values.{Of, OfEach, count, nth}
 use Rattle.type_kinds.specs.KindsOf.{kinds_of}
 use Rattle.compact_wire.specs.Node as node
-use Rattle.compact_wire.specs.Node.{Node, Fields}
 use Rattle.compact_wire.specs.Number.{shortest}
 use Rattle.compact_wire.specs.Canon.{canon, canon_fields, sequence_header, field_header}
 use Rattle.typed_tree.specs.Parts.{items_of, fields_of as values_in}

@@ -104,7 +104,7 @@ check_list-returns-clause-reads t c =
 
 pub check_value-returns-then-code_of-code-clause-reads : goal.check_value-returns-then-code_of-code-clause-reads
 check_value-returns-then-code_of-code-clause-reads t c =
-    rw c.with.ensures (wrong_value (type_of_ref c.args.ty) c.args.so_far c.args.levels c.args.kind c.args.bytes.now c.in_ok-next.rest.now c.in_ok-next.next (λ h. c.if-code_of-code.true (c.code_of.ensures ∙ h ∙ sym c.code.ensures)) c.in_ok-next.ensures.reads)
+    rw c.with.ensures (wrong_value (type_of_ref c.args.ty) c.args.so_far c.args.levels c.args.kind c.args.bytes.now c.in_ok-next.rest.now c.in_ok-next.next (λ h. c.if-code_of-code.true (c.code_of.ensures ∙ h ∙ sym c.code.ensures.is)) c.in_ok-next.ensures.reads)
 
 pub check_value-returns-in_err-last-clause-reads : goal.check_value-returns-in_err-last-clause-reads
 check_value-returns-in_err-last-clause-reads t c =

@@ -145,7 +145,7 @@ count_pairs-returns-clause-reads t c =
 
 pub count_value-returns-then-code_of-code-clause-reads : goal.count_value-returns-then-code_of-code-clause-reads
 count_value-returns-then-code_of-code-clause-reads t c =
-    other_counted (type_of_ref c.args.ty) c.args.so_far c.args.levels c.args.kind c.args.bytes.now c.in_ok-rest.rest.now c.in_ok-rest.field-0-0 (λ h. c.if-code_of-code.true (c.code_of.ensures ∙ h ∙ sym c.code.ensures)) c.in_ok-rest.ensures.reads
+    other_counted (type_of_ref c.args.ty) c.args.so_far c.args.levels c.args.kind c.args.bytes.now c.in_ok-rest.rest.now c.in_ok-rest.field-0-0 (λ h. c.if-code_of-code.true (c.code_of.ensures ∙ h ∙ sym c.code.ensures.is)) c.in_ok-rest.ensures.reads
 
 pub count_value-returns-in_err-count-clause-reads : goal.count_value-returns-in_err-count-clause-reads
 count_value-returns-in_err-count-clause-reads t c =
@@ -169,12 +169,12 @@ count_value-returns-in_ok-count-in_default t c =
 pub count_value-returns-in-List-clause-reads : goal.count_value-returns-in-List-clause-reads
 count_value-returns-in-List-clause-reads t c =
     let v = value-step c.args.levels c.args.kind (omega arith) ∙ ap (container (c.args.levels - 1) (value (c.args.levels - 1))) c.in-List.is in
-    rw v (c.count_sequence.ensures.reads list (list_holds (type_of_ref c.args.ty) (sym c.code.ensures ∙ sym c.if-code_of-code.false ∙ c.code_of.ensures ∙ ap code_of c.in-List.is)))
+    rw v (c.count_sequence.ensures.reads list (list_holds (type_of_ref c.args.ty) (sym c.code.ensures.is ∙ sym c.if-code_of-code.false ∙ c.code_of.ensures ∙ ap code_of c.in-List.is)))
 
 pub count_value-returns-in-Set-clause-reads : goal.count_value-returns-in-Set-clause-reads
 count_value-returns-in-Set-clause-reads t c =
     let v = value-step c.args.levels c.args.kind (omega arith) ∙ ap (container (c.args.levels - 1) (value (c.args.levels - 1))) c.in-Set.is in
-    rw v (c.count_sequence-in-Set.ensures.reads set (set_holds (type_of_ref c.args.ty) (sym c.code.ensures ∙ sym c.if-code_of-code.false ∙ c.code_of.ensures ∙ ap code_of c.in-Set.is)))
+    rw v (c.count_sequence-in-Set.ensures.reads set (set_holds (type_of_ref c.args.ty) (sym c.code.ensures.is ∙ sym c.if-code_of-code.false ∙ c.code_of.ensures ∙ ap code_of c.in-Set.is)))
 
 pub count_value-returns-in-Map-clause-reads : goal.count_value-returns-in-Map-clause-reads
 count_value-returns-in-Map-clause-reads t c =
@@ -188,11 +188,11 @@ count_value-returns-in-Struct-clause-reads t c =
 
 pub count_typed-returns-then-code-eq1-clause-reads : goal.count_typed-returns-then-code-eq1-clause-reads
 count_typed-returns-then-code-eq1-clause-reads t c =
-    rw (c.in-Given.is, c.with_scalar.ensures) (flag_counted (type_of_ref c.args.ty) c.args.so_far c.in-Given.field-0 c.args.bytes.now (sym c.code.ensures ∙ c.if-code-eq1.true))
+    rw (c.in-Given.is, c.with_scalar.ensures) (flag_counted (type_of_ref c.args.ty) c.args.so_far c.in-Given.field-0 c.args.bytes.now (sym c.code.ensures.is ∙ c.if-code-eq1.true))
 
 pub count_typed-returns-else-code-eq1-clause-reads : goal.count_typed-returns-else-code-eq1-clause-reads
 count_typed-returns-else-code-eq1-clause-reads t c =
-    rw c.in-Given.is (other_flag (type_of_ref c.args.ty) c.args.so_far c.in-Given.field-0 c.args.bytes.now (λ h. c.if-code-eq1.false (c.code.ensures ∙ h)))
+    rw c.in-Given.is (other_flag (type_of_ref c.args.ty) c.args.so_far c.in-Given.field-0 c.args.bytes.now (λ h. c.if-code-eq1.false (c.code.ensures.is ∙ h)))
 
 pub count_field-returns-in_default-clause-reads : goal.count_field-returns-in_default-clause-reads
 count_field-returns-in_default-clause-reads t c id ids p =

@@ -1,5 +1,6 @@
 -- The digits of a number in base 128, and zigzag.
-use Rattle.std.proofs.Common.{◌≡◌, ℕ, zero, suc, ◌+◌, ◌*◌, ◌/◌, ◌%◌, ◌^◌, ◌<◌, ◌≤◌, inl, inr, List, [], ◌∷◌, ◌++◌, length, refl, sym, ap, subst, ◌∙◌, arith}
+use Rattle.std.proofs.Common.{◌≡◌, ℕ, zero, suc, ◌+◌, ◌*◌, ◌/◌, ◌%◌, ◌^◌, ◌<◌, ◌≤◌, inl, inr, [], ◌∷◌, length}
+use Rattle.std.proofs.Common.{refl, sym, ap, subst, ◌∙◌, arith}
 use Rattle.std.specs.Prelude.{ℤ, pos, negsuc}
 use Rattle.std.proofs.lemmas.Bool.{cases_lt, lt-ltb, le-ltb}
 use Rattle.std.proofs.lemmas.Nat.{pow-add}
@@ -13,7 +14,8 @@ unzigzag-even n = let r : 2 * n % 2 ≡ 0 = omega arith in let q : 2 * n / 2 ≡
 
 unzigzag-odd : (n : ℕ) → unzigzag (2 * n + 1) ≡ negsuc n
 unfolding unzigzag
-unzigzag-odd n = let r : (2 * n + 1) % 2 ≡ 1 = omega arith in let q : (2 * n + 1) / 2 ≡ n = omega arith in rw (r, q) refl
+unzigzag-odd n =
+    let r : (2 * n + 1) % 2 ≡ 1 = omega arith in let q : (2 * n + 1) / 2 ≡ n = omega arith in rw (r, q) refl
 
 pub unzigzag-zigzag : (x : ℤ) → unzigzag (zigzag x) ≡ x
 unzigzag-zigzag (pos n) = unzigzag-even n
@@ -37,20 +39,13 @@ quotient_fits room n lt =
     let h : n < 2 ^ k * 128 = subst (λ (z : ℕ). n < z) (ap (λ (z : ℕ). 2 ^ z) e ∙ p) lt in
     omega arith
 
-pub product_fits : (room low high : ℕ) → low < 128 → high < 2 ^ (7 * room + 7) → low + 128 * high < 2 ^ (7 * suc room + 7)
-product_fits room low high l h =
-    let k : ℕ = 7 * room + 7 in
-    let e : k + 7 ≡ 7 * suc room + 7 = omega arith in
-    let p : 2 ^ k * 2 ^ 7 ≡ 2 ^ (k + 7) = sym (pow-add 2 k 7) in
-    let g : low + 128 * high < 2 ^ k * 128 = omega arith in
-    subst (λ (z : ℕ). low + 128 * high < z) (p ∙ ap (λ (z : ℕ). 2 ^ z) e) g
-
 pub digits-last : (room n : ℕ) → n < 128 → digits_128 room n ≡ n ∷ []
 unfolding digits_128
 digits-last zero n lt = refl
 digits-last (suc room) n lt = rw (lt-ltb n 128 lt) refl
 
-pub digits-more : (room n : ℕ) → 128 ≤ n → digits_128 (suc room) n ≡ (n % 128 + 128) ∷ digits_128 room (n / 128)
+pub digits-more : (room n : ℕ) → 128 ≤ n
+    → digits_128 (suc room) n ≡ (n % 128 + 128) ∷ digits_128 room (n / 128)
 unfolding digits_128
 digits-more room n le = rw (le-ltb n 128 le) refl
 
@@ -60,34 +55,9 @@ digits-room zero n lt = let small : n < 128 = lt in digits-last 1 n small ∙ sy
 digits-room (suc room) n lt =
     elim (cases_lt n 128) [
       | inl small ↦ digits-last (suc (suc room)) n small ∙ sym (digits-last (suc room) n small)
-      | inr le ↦ digits-more (suc room) n le ∙ ap (λ ds. (n % 128 + 128) ∷ ds) (digits-room room (n / 128) (quotient_fits room n lt)) ∙ sym (digits-more room n le)
-    ]
-
--- digits begin no other digits
-pub digits-unique : (room m n : ℕ) (r s : List ℕ) → digits_128 room m ++ r ≡ digits_128 room n ++ s → (m ≡ n) × (r ≡ s)
-unfolding digits_128
-digits-unique zero m n r s e = (cc, cc)
-digits-unique (suc room) m n r s e =
-    elim (cases_lt m 128) [
-      | inl m_small ↦ elim (cases_lt n 128) [
-        | inl n_small ↦
-            let f : m ∷ r ≡ n ∷ s = rw (digits-last (suc room) m m_small, digits-last (suc room) n n_small) at e in (cc, cc)
-        | inr n_large ↦
-            let f : m ∷ r ≡ (n % 128 + 128) ∷ (digits_128 room (n / 128) ++ s) = rw (digits-last (suc room) m m_small, digits-more room n n_large) at e in
-            let g : m ≡ n % 128 + 128 = cc in absurd (omega arith)
-      ]
-      | inr m_large ↦ elim (cases_lt n 128) [
-        | inl n_small ↦
-            let f : (m % 128 + 128) ∷ (digits_128 room (m / 128) ++ r) ≡ n ∷ s = rw (digits-more room m m_large, digits-last (suc room) n n_small) at e in
-            let g : m % 128 + 128 ≡ n = cc in absurd (omega arith)
-        | inr n_large ↦
-            let f : (m % 128 + 128) ∷ (digits_128 room (m / 128) ++ r) ≡ (n % 128 + 128) ∷ (digits_128 room (n / 128) ++ s) = rw (digits-more room m m_large, digits-more room n n_large) at e in
-            let low : m % 128 + 128 ≡ n % 128 + 128 = cc in
-            let tail : digits_128 room (m / 128) ++ r ≡ digits_128 room (n / 128) ++ s = cc in
-            let high = digits-unique room (m / 128) (n / 128) r s tail in
-            let q : m / 128 ≡ n / 128 = high.0 in
-            (omega arith, high.1)
-      ]
+      | inr le ↦ digits-more (suc room) n le
+          ∙ ap (λ ds. (n % 128 + 128) ∷ ds) (digits-room room (n / 128) (quotient_fits room n lt))
+          ∙ sym (digits-more room n le)
     ]
 
 -- ---- shortest spellings
@@ -98,17 +68,9 @@ shortest-last n lt = digits-last 9 n lt
 
 pub shortest-more : (n : ℕ) → 128 ≤ n → n < 2 ^ 70 → shortest n ≡ (n % 128 + 128) ∷ shortest (n / 128)
 unfolding shortest
-shortest-more n le lt = digits-more 8 n le ∙ ap (λ ds. (n % 128 + 128) ∷ ds) (sym (digits-room 8 (n / 128) (quotient_fits 8 n lt)))
-
-pub shortest-unique : (m n : ℕ) (r s : List ℕ) → shortest m ++ r ≡ shortest n ++ s → (m ≡ n) × (r ≡ s)
-unfolding shortest
-shortest-unique m n r s e = digits-unique 9 m n r s e
-
--- five bytes hold what a spelling of five bytes needs
-pub shortest-five : (n : ℕ) → n < 2 ^ 35 → shortest n ≡ digits_128 4 n
-unfolding shortest
-shortest-five n lt =
-    digits-room 8 n (omega arith) ∙ digits-room 7 n (omega arith) ∙ digits-room 6 n (omega arith) ∙ digits-room 5 n (omega arith) ∙ digits-room 4 n lt
+shortest-more n le lt =
+    digits-more 8 n le
+    ∙ ap (λ ds. (n % 128 + 128) ∷ ds) (sym (digits-room 8 (n / 128) (quotient_fits 8 n lt)))
 
 length-digits : (room n : ℕ) → (0 < length (digits_128 room n)) × (length (digits_128 room n) ≤ suc room)
 unfolding digits_128

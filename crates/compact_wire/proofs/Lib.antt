@@ -1,5 +1,4 @@
 pub mod DigitLaws
-pub mod ThinLaws
 pub mod NumberLaws
 pub mod NumberSteps
 pub mod Signed

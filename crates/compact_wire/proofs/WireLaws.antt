@@ -17,7 +17,9 @@ pub wire_exact : (n : ℕ) → Exact IsByte n SpellsWire wire
 wire_exact n = (value_layer 64).exact k.Struct refl n
 
 pub nothing_follows : (v w : Node) (s rest : List ℕ) → SpellsWire v s → SpellsWire w (s ++ rest) → rest ≡ []
-nothing_follows v w s rest p q = (no_prefix IsByte SpellsWire wire wire_exact v w s (s ++ rest) rest [] p q (sym (append-nil (s ++ rest)))).2
+nothing_follows v w s rest p q =
+    (no_prefix IsByte SpellsWire wire wire_exact v w s (s ++ rest) rest [] p q
+    (sym (append-nil (s ++ rest)))).2
 
 pub one_node : (v w : Node) (s : List ℕ) → SpellsWire v s → SpellsWire w s → v ≡ w
 one_node = one_value IsByte SpellsWire wire wire_exact

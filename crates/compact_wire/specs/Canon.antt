@@ -1,6 +1,8 @@
 -- The canonical spelling: shortest numbers, and the short header where it can stand.
-use Rattle.std.specs.Prelude.{ℕ, suc, ◌+◌, ◌-◌, ◌*◌, ℤ, pos, negsuc, true, false, if◌then◌else◌, nat_lt, ◌&&◌, List, [], ◌∷◌, ◌++◌, length}
-use Rattle.compact_wire.specs.Node.{Node, flag, i8, i16, i32, i64, double, binary, list, set, map, structure, Nodes, no_nodes, node, Pairs, no_pairs, pair, Fields, no_fields, field}
+use Rattle.std.specs.Prelude.{ℕ, suc, ◌+◌, ◌-◌, ◌*◌, ℤ, pos, negsuc, true, false, if◌then◌else◌, nat_lt, ◌&&◌}
+use Rattle.std.specs.Prelude.{List, [], ◌∷◌, ◌++◌, length}
+use Rattle.compact_wire.specs.Node.{Node, flag, i8, i16, i32, i64, double, binary, list, set, map, structure}
+use Rattle.compact_wire.specs.Node.{Nodes, no_nodes, node, Pairs, no_pairs, pair, Fields, no_fields, field}
 use Rattle.compact_wire.specs.Number.{zigzag, shortest}
 use Rattle.compact_wire.specs.Spells.{SpellsWire}
 
@@ -30,7 +32,8 @@ id_step (pos a) (negsuc b) = 0
 id_step (negsuc a) (pos b) = b + suc a
 id_step (negsuc a) (negsuc b) = a - b
 
--- the header of a field: the step and the code in one byte where the step is 1 to 15, else the code and the id
+-- the header of a field: the step and the code in one byte where the step is 1 to 15, else the code and the
+-- id
 abbrev pub field_header : ℤ → ℤ → ℕ → List ℕ
 field_header before id code =
     if nat_lt 0 (id_step before id) && nat_lt (id_step before id) 16 then (16 * id_step before id + code) ∷ []
@@ -80,8 +83,10 @@ abbrev mutual
   -- the fields behind a field of that id
   pub canon_fields : ℤ → Fields → List ℕ
   canon_fields before no_fields = 0 ∷ []
-  canon_fields before (field id (flag x) xs) = field_header before id (code_in_field (flag x)) ++ canon_fields id xs
-  canon_fields before (field id x xs) = field_header before id (code_in_field x) ++ (canon x ++ canon_fields id xs)
+  canon_fields before (field id (flag x) xs) =
+      field_header before id (code_in_field (flag x)) ++ canon_fields id xs
+  canon_fields before (field id x xs) =
+      field_header before id (code_in_field x) ++ (canon x ++ canon_fields id xs)
 
 -- some bytes spell it
 abbrev pub FitsWire : Node → Type 0

@@ -8,4 +8,3 @@ pub mod View
 pub mod WireAnswers
 pub mod Reads
 pub mod Writes
-pub mod Thin

@@ -1,5 +1,7 @@
--- Numbers on the wire: base 128, the lowest digit first, and zigzag for signed ones. A number has its shortest spelling and longer ones.
-use Rattle.std.specs.Prelude.{◌≡◌, ℕ, zero, suc, ◌+◌, ◌*◌, ◌/◌, ◌%◌, ◌<◌, ◌≤◌, ℤ, pos, negsuc, if◌then◌else◌, nat_lt, ◌==◌, List, [], ◌∷◌, length}
+-- Numbers on the wire: base 128, the lowest digit first, and zigzag for signed ones. A number has its
+-- shortest spelling and longer ones.
+use Rattle.std.specs.Prelude.{◌≡◌, ℕ, zero, suc, ◌+◌, ◌*◌, ◌/◌, ◌%◌, ◌<◌, ◌≤◌, ℤ, pos, negsuc, if◌then◌else◌}
+use Rattle.std.specs.Prelude.{nat_lt, ◌==◌, List, [], ◌∷◌, length}
 
 -- the number that writes a signed one: 2x for x from 0 up, and -2x - 1 below
 abbrev pub zigzag : ℤ → ℕ
@@ -14,7 +16,8 @@ unzigzag n = if n % 2 == 0 then pos (n / 2) else negsuc (n / 2)
 abbrev pub IsVarint : List ℕ → ℕ → Type 0
 IsVarint [] n = ⊥
 IsVarint (b ∷ []) n = (b < 128) × (n ≡ b)
-IsVarint (b ∷ c ∷ bs) n = (128 ≤ b) × (b < 256) × (high : ℕ) × (n + 128 ≡ b + 128 * high) × IsVarint (c ∷ bs) high
+IsVarint (b ∷ c ∷ bs) n =
+    (128 ≤ b) × (b < 256) × (high : ℕ) × (n + 128 ≡ b + 128 * high) × IsVarint (c ∷ bs) high
 
 -- the bytes write n, in so many bytes at most, and n is no greater than the greatest
 pub record IsNumber (most greatest n : ℕ) (bytes : List ℕ) : Type 0 where

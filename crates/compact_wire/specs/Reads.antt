@@ -1,6 +1,9 @@
--- Reading a value of the wire from left to right, as a function on lists of bytes. Private functions of the code are stated by it;
+-- Reading a value of the wire from left to right, as a function on lists of bytes. Private functions of the
+-- code are stated by it;
 -- the public ones are stated by the grammar, against which it is proved exact.
-use Rattle.std.specs.Prelude.{ℕ, zero, suc, ◌+◌, ◌-◌, ◌*◌, ◌/◌, ◌%◌, ◌^◌, ℤ, pos, negsuc, ◌+ℤ◌, int_lt, Bool, true, false, if◌then◌else◌, nat_lt, nat_le, ◌==◌, ◌||◌, ◌&&◌, length, Option, Some, None, option_and_then, Err}
+use Rattle.std.specs.Prelude.{ℕ, zero, suc, ◌+◌, ◌-◌, ◌*◌, ◌/◌, ◌%◌, ◌^◌, ℤ, pos, negsuc, ◌+ℤ◌, int_lt, Bool}
+use Rattle.std.specs.Prelude.{true, false, if◌then◌else◌, nat_lt, nat_le, ◌==◌, ◌||◌, ◌&&◌, length, Option}
+use Rattle.std.specs.Prelude.{Some, None, option_and_then, Err}
 use Rattle.exact_reading.specs.declared.stop.Stop.TheVariants.{Ended}
 use Rattle.compact_wire.specs.declared.kind.Kind.{Kind}
 use Rattle.compact_wire.specs.declared.kind.Kind.TheVariants as k
@@ -10,8 +13,10 @@ use Rattle.compact_wire.specs.declared.header.PairKinds.{PairKinds}
 use Rattle.compact_wire.specs.declared.header.FieldType.{FieldType}
 use Rattle.compact_wire.specs.declared.header.FieldType.TheVariants.{Given as given, Of as of}
 use Rattle.compact_wire.specs.declared.header.FieldHeader.{FieldHeader}
-use Rattle.compact_wire.specs.declared.header.FieldHeader.TheVariants.{End as stop, Step as step, Long as long}
-use Rattle.compact_wire.specs.Node.{Node, flag, i8, i16, i32, i64, double, binary, list, set, map, structure, Nodes, no_nodes, node, Pairs, no_pairs, pair, Fields, no_fields, field}
+use Rattle.compact_wire.specs.declared.header.FieldHeader.TheVariants.{End as stop, Step as step}
+use Rattle.compact_wire.specs.declared.header.FieldHeader.TheVariants.{Long as long}
+use Rattle.compact_wire.specs.Node.{Node, flag, i8, i16, i32, i64, double, binary, list, set, map, structure}
+use Rattle.compact_wire.specs.Node.{Nodes, no_nodes, node, Pairs, no_pairs, pair, Fields, no_fields, field}
 use Rattle.compact_wire.specs.Bytes.{ByteReader}
 use Rattle.exact_reading.specs.Reading.{and_then, pure, one, taken}
 use Rattle.compact_wire.specs.Number.{unzigzag}
@@ -33,7 +38,8 @@ digit room greatest b =
 -- what stands behind a digit
 abbrev pub number_tail : (ℕ → ByteReader ℕ) → ℕ → Digit → ByteReader ℕ
 number_tail next greatest (last n) = pure n
-number_tail next greatest (more low) = and_then (next ((greatest - low) / 128)) (λ high. pure (low + 128 * high))
+number_tail next greatest (more low) =
+    and_then (next ((greatest - low) / 128)) (λ high. pure (low + 128 * high))
 
 -- a number up to a greatest, with room for so many bytes after the first
 unfoldable pub number : ℕ → ℕ → ByteReader ℕ
@@ -89,7 +95,8 @@ scalar _ = λ bytes. Err Ended
 
 -- ---- lists and sets
 
--- The header byte of a list or a set, by its size and kind. Without levels only an empty one has items of a container.
+-- The header byte of a list or a set, by its size and kind. Without levels only an empty one has items of a
+-- container.
 abbrev pub list_header_of : ℕ → ℕ → Kind → Option ListHeader
 list_header_of levels size kind =
     if size == 15 then Some (counted kind)
@@ -117,7 +124,8 @@ items value (suc n) = and_then value (λ x. and_then (items value n) (λ xs. pur
 unfoldable pub sequence : (ℕ → Nodes → Node) → ℕ → (Kind → ByteReader Node) → ByteReader Node
 sequence make levels value =
     and_then (one (list_header levels)) (λ h.
-    and_then (count levels h) (λ n. and_then (items (value (element h)) n) (λ xs. pure (make (code_of (element h)) xs))))
+    and_then (count levels h)
+    (λ n. and_then (items (value (element h)) n) (λ xs. pure (make (code_of (element h)) xs))))
 
 -- ---- maps
 
@@ -137,11 +145,14 @@ map_header levels b = kinds_of (kind_at levels (b / 16)) (kind_at levels (b % 16
 -- so many pairs
 unfoldable pub pairs : ByteReader Node → ByteReader Node → ℕ → ByteReader Pairs
 pairs key value zero = pure no_pairs
-pairs key value (suc n) = and_then key (λ x. and_then value (λ y. and_then (pairs key value n) (λ xs. pure (pair x y xs))))
+pairs key value (suc n) =
+    and_then key (λ x. and_then value (λ y. and_then (pairs key value n) (λ xs. pure (pair x y xs))))
 
 -- the pairs behind their codes
 abbrev pub mapping_pairs : (Kind → ByteReader Node) → ℕ → PairKinds → ByteReader Node
-mapping_pairs value n kinds = and_then (pairs (value kinds.key) (value kinds.value) n) (λ xs. pure (map (code_of kinds.key) (code_of kinds.value) xs))
+mapping_pairs value n kinds =
+    and_then (pairs (value kinds.key) (value kinds.value) n)
+    (λ xs. pure (map (code_of kinds.key) (code_of kinds.value) xs))
 
 -- what stands behind the size
 abbrev pub map_tail : ℕ → (Kind → ByteReader Node) → ℕ → ByteReader Node
@@ -159,7 +170,9 @@ of_kind kind = Some (of kind)
 
 -- what a code says of its field's value: a flag itself, or its kind
 unfoldable pub field_type : ℕ → ℕ → Option FieldType
-field_type levels c = if c == 1 then Some (given true) else (if c == 2 then Some (given false) else option_and_then of_kind (kind_at levels c))
+field_type levels c =
+    if c == 1 then Some (given true)
+    else (if c == 2 then Some (given false) else option_and_then of_kind (kind_at levels c))
 
 -- a field's header by the step from the id before and what the code says
 abbrev pub header_of : ℤ → ℕ → FieldType → Option FieldHeader
@@ -169,7 +182,8 @@ header_of before delta type =
 
 -- the first byte of a field, or the end of the fields
 unfoldable pub field_header : ℕ → ℤ → ℕ → Option FieldHeader
-field_header levels before b = if b == 0 then Some stop else option_and_then (header_of before (b / 16)) (field_type levels (b % 16))
+field_header levels before b =
+    if b == 0 then Some stop else option_and_then (header_of before (b / 16)) (field_type levels (b % 16))
 
 -- the value of a field
 abbrev pub typed : (Kind → ByteReader Node) → FieldType → ByteReader Node
@@ -184,12 +198,14 @@ with_field next value id = and_then value (λ x. and_then (next id) (λ xs. pure
 abbrev pub field_tail : (Kind → ByteReader Node) → (ℤ → ByteReader Fields) → FieldHeader → ByteReader Fields
 field_tail value next stop = pure no_fields
 field_tail value next (step id type) = with_field next (typed value type) id
-field_tail value next (long type) = and_then (signed 2 (2 ^ 16 - 1)) (λ id. with_field next (typed value type) id)
+field_tail value next (long type) =
+    and_then (signed 2 (2 ^ 16 - 1)) (λ id. with_field next (typed value type) id)
 
 -- The first number bounds the fields. The count of the bytes is always enough.
 unfoldable pub fields : ℕ → (Kind → ByteReader Node) → ℕ → ℤ → ByteReader Fields
 fields levels value zero before = λ bytes. Err Ended
-fields levels value (suc turns) before = and_then (one (field_header levels before)) (field_tail value (fields levels value turns))
+fields levels value (suc turns) before =
+    and_then (one (field_header levels before)) (field_tail value (fields levels value turns))
 
 -- the fields of a struct
 abbrev pub all_fields : ℕ → (Kind → ByteReader Node) → ByteReader Fields

@@ -1,6 +1,7 @@
 -- The tree that a `Wire` stands for.
 use Rattle.std.specs.Prelude.{ℤ, List, [], ◌∷◌, map as map_list}
-use Rattle.compact_wire.specs.Node.{Node, flag, i8, i16, i32, i64, double, binary, list, set, map, structure, Nodes, no_nodes, node, Pairs, no_pairs, pair, Fields, no_fields, field}
+use Rattle.compact_wire.specs.Node.{Node, flag, i8, i16, i32, i64, double, binary, list, set, map, structure}
+use Rattle.compact_wire.specs.Node.{Nodes, no_nodes, node, Pairs, no_pairs, pair, Fields, no_fields, field}
 use Rattle.compact_wire.specs.declared.wire.Wire.{Wire, fold-Wire}
 use Rattle.compact_wire.specs.declared.wire.Wire.TheOpen.{Wire-F}
 

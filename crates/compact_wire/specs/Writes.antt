@@ -1,6 +1,7 @@
 -- What writing a value of the wire rests on, and its parts.
 use Rattle.std.specs.Prelude.{ℕ, ◌<◌, ℤ, List, ◌++◌}
-use Rattle.compact_wire.specs.Node.{Node, flag, list, set, map, structure, Nodes, no_nodes, node, Pairs, no_pairs, pair, Fields, no_fields, field}
+use Rattle.compact_wire.specs.Node.{Node, flag, list, set, map, structure, Nodes, no_nodes, node, Pairs}
+use Rattle.compact_wire.specs.Node.{no_pairs, pair, Fields, no_fields, field}
 use Rattle.compact_wire.specs.Canon.{canon, code_in_field, field_header}
 
 -- a field behind the field of the id before: a flag stands in the code of the header

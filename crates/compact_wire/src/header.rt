@@ -1,7 +1,9 @@
 //! What header bytes say.
 
 ghost use Rattle.std.specs.Prelude.{◌≡◌};
-ghost use Rattle.compact_wire.specs.Reads.{kind_at as kind_for_at, list_header as list_header_at, field_type as field_type_at, field_header as field_header_at, map_header as map_header_at};
+ghost use Rattle.compact_wire.specs.Reads.{kind_at as kind_for_at, list_header as list_header_at};
+ghost use Rattle.compact_wire.specs.Reads.{field_type as field_type_at, field_header as field_header_at};
+ghost use Rattle.compact_wire.specs.Reads.{map_header as map_header_at};
 
 use crate::kind::{Kind, fits, kind_of};
 

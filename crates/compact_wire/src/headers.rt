@@ -2,7 +2,8 @@
 
 ghost use Rattle.std.specs.Prelude.{◌≡◌, ◌<◌, ◌≤◌, ◌^◌, length, IfOk};
 ghost use Rattle.exact_reading.specs.Reading.{Meets, one};
-ghost use Rattle.compact_wire.specs.Reads.{list_header as list_header_at, count, element, map_header as map_header_at, field_start as field_start_at};
+ghost use Rattle.compact_wire.specs.Reads.{list_header as list_header_at, count, element};
+ghost use Rattle.compact_wire.specs.Reads.{map_header as map_header_at, field_start as field_start_at};
 
 use crate::header::{
     FieldBefore, FieldHeader, FieldType, ListHeader, PairKinds, field_header, list_header,

@@ -9,7 +9,6 @@ mod laws;
 mod numbers;
 mod reading;
 mod scalars;
-mod thin;
 mod whole;
 mod wire;
 mod writing;
@@ -26,7 +25,6 @@ pub use numbers::{
     push_number, read_i16, read_i32, read_i64, read_number, unzigzag, unzigzag_32, zigzag,
 };
 pub use scalars::{read_eight, read_taken};
-pub use thin::{ThinFault, read_thin};
 pub use whole::read_wire;
 pub use wire::Wire;
 pub use writing::{push_binary, push_field_header, push_sequence_header, write_wire};

@@ -2,7 +2,8 @@
 
 ghost use Rattle.std.specs.Prelude.{◌≡◌};
 ghost use Rattle.exact_reading.specs.Reading.{Gives, and_then, pure};
-ghost use Rattle.compact_wire.specs.Reads.{items, sequence, value, mapping, pairs, mapping_pairs, all_fields, typed};
+ghost use Rattle.compact_wire.specs.Reads.{items, sequence, value, mapping, pairs, mapping_pairs};
+ghost use Rattle.compact_wire.specs.Reads.{all_fields, typed};
 ghost use Rattle.compact_wire.specs.Node.{list, set, structure};
 ghost use Rattle.compact_wire.specs.View.{view, nodes_view, fields_view, pairs_view};
 
@@ -78,7 +79,8 @@ fn read_items(
     count: u64,
     bytes: &[u8],
 ) -> Result<(Vec<Wire>, &[u8]), ReadError<Stop>>
-    ensures { Gives (λ x. (nodes_view x.0.items, x.1.now)) result (items (value levels kind) count bytes.now) }
+    ensures { Gives (λ x. (nodes_view x.0.items, x.1.now)) result
+        (items (value levels kind) count bytes.now) }
 {
     let mut found = Vec::new(alloc);
     let mut rest = bytes;
@@ -94,7 +96,8 @@ fn read_items(
 /// A struct whose values may open so many levels.
 #[cycle(value)]
 fn read_struct(alloc: Global, levels: u32, bytes: &[u8]) -> Result<(Wire, &[u8]), ReadError<Stop>>
-    ensures { Gives (λ x. (view x.0, x.1.now)) result (and_then (all_fields levels (value levels)) (λ xs. pure (structure xs)) bytes.now) }
+    ensures { Gives (λ x. (view x.0, x.1.now)) result
+        (and_then (all_fields levels (value levels)) (λ xs. pure (structure xs)) bytes.now) }
 {
     let (fields, rest) = read_fields(alloc, levels, bytes)?;
     let fields = Items::from_vec(fields);
@@ -124,7 +127,8 @@ fn read_fields(
     levels: u32,
     bytes: &[u8],
 ) -> Result<(Vec<(i16, Wire)>, &[u8]), ReadError<Stop>>
-    ensures { Gives (λ x. (fields_view x.0.items, x.1.now)) result (all_fields levels (value levels) bytes.now) }
+    ensures { Gives (λ x. (fields_view x.0.items, x.1.now)) result
+        (all_fields levels (value levels) bytes.now) }
 {
     let mut found = Vec::new(alloc);
     let mut rest = bytes;
@@ -191,7 +195,8 @@ fn read_pairs(
     count: u64,
     bytes: &[u8],
 ) -> Result<(Vec<(Wire, Wire)>, &[u8]), ReadError<Stop>>
-    ensures { Gives (λ x. (pairs_view x.0.items, x.1.now)) result (pairs (value levels key_kind) (value levels value_kind) count bytes.now) }
+    ensures { Gives (λ x. (pairs_view x.0.items, x.1.now)) result
+        (pairs (value levels key_kind) (value levels value_kind) count bytes.now) }
 {
     let mut found = Vec::new(alloc);
     let mut rest = bytes;

@@ -41,7 +41,8 @@ fn spellings_and_refusals(rt: HostRuntime) {
         (b"\x15\x00\x00".as_slice(), 1000),
         (b"\x15\x80\x80\x80\x80\x00\x00".as_slice(), 1000),
         (b"\x05\x02\x02\x00".as_slice(), 1000),
-        // bools in headers and in a list whose code is 2; an empty list of structs; a long header for one item
+        // bools in headers and in a list whose code is 2; an empty list of structs; a long header for one
+        // item
         (b"\x11\x12\x00".as_slice(), 1000),
         (b"\x19\x32\x01\x00\x02\x00".as_slice(), 1000),
         (b"\x19\x0C\x00".as_slice(), 1000),

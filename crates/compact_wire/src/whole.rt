@@ -10,7 +10,8 @@ use crate::wire::Wire;
 use exact_reading::{ReadError, Stop};
 use std::alloc::Global;
 
-/// The struct that the bytes spell, all of them. Numbers may be overlong within their limits, and headers short or long.
+/// The struct that the bytes spell, all of them. Numbers may be overlong within their limits, and headers short
+/// or long.
 pub fn read_wire(alloc: Global, bytes: &[u8]) -> Result<Wire, WireFault>
     // Each answer has its cause.
     ensures cause { IsWireAnswer bytes.now result }

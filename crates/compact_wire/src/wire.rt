@@ -2,7 +2,8 @@
 
 use sqlite_items::Items;
 
-/// A value of the wire. The codes of a list, a set and a map are those of their elements, with 1 for both codes of bool.
+/// A value of the wire. The codes of a list, a set and a map are those of their elements, with 1 for both
+/// codes of bool.
 #[derive(Debug, Drop)]
 pub enum Wire {
     Flag(bool),

@@ -3,9 +3,11 @@
 ghost use Rattle.std.specs.Prelude.{◌≡◌, ◌<◌, ◌++◌, IfOk, OnOk, length, pos};
 ghost use Rattle.compact_wire.specs.Number.{shortest};
 ghost use Rattle.compact_wire.specs.Node.{list, map};
-ghost use Rattle.compact_wire.specs.Canon.{canon, canon_items, canon_pairs, canon_fields, code_in_field, field_header, sequence_header, FitsWire};
+ghost use Rattle.compact_wire.specs.Canon.{canon, canon_items, canon_pairs, canon_fields, code_in_field};
+ghost use Rattle.compact_wire.specs.Canon.{field_header, sequence_header, FitsWire};
 ghost use Rattle.compact_wire.specs.View.{view, nodes_view, pairs_view, fields_view};
-ghost use Rattle.compact_wire.specs.Writes.{canon_field, CodesFit, CodesFitAll, CodesFitPairs, CodesFitFields};
+ghost use Rattle.compact_wire.specs.Writes.{canon_field, CodesFit, CodesFitAll, CodesFitPairs};
+ghost use Rattle.compact_wire.specs.Writes.{CodesFitFields};
 
 use crate::header::FieldBefore;
 use crate::numbers::{push_number, zigzag};
@@ -22,8 +24,8 @@ pub fn write_wire(alloc: Global, wire: &Wire) -> Result<Vec<u8>, AllocError>
     Ok(out)
 }
 
-/// Appends the header of a list or a set of so many items, by the code of their type: one byte where they are fewer than
-/// 15, and else a byte and their number. After a want of memory `out` may have bytes of it at its end.
+/// Appends the header of a list or a set of so many items, by the code of their type: one byte where they are
+/// fewer than 15, and else a byte and their number. After a want of memory `out` may have bytes of it at its end.
 pub fn push_sequence_header(out: &mut Vec<u8>, code: u8, count: usize) -> Result<(), AllocError>
     requires { code < 16 }
     ensures { OnOk result (out.new.items ≡ out.old.items ++ sequence_header code count) }
@@ -36,8 +38,8 @@ pub fn push_sequence_header(out: &mut Vec<u8>, code: u8, count: usize) -> Result
     push_number(out, count as u64)
 }
 
-/// Appends the header of a field behind the field of the id before: one byte where the id rises by 1 to 15, and else the
-/// code and the id. After a want of memory `out` may have bytes of it at its end.
+/// Appends the header of a field behind the field of the id before: one byte where the id rises by 1 to 15, and
+/// else the code and the id. After a want of memory `out` may have bytes of it at its end.
 pub fn push_field_header(
     out: &mut Vec<u8>,
     before: FieldBefore,

@@ -1,9 +1,12 @@
 -- From what the answer is and what is done with it follows what a run does.
-use Rattle.std.proofs.Common.{◌≡◌, ◌⊎◌, ◌≤◌, ℕ, List, [], None, Some, Option, IfSome, Result, Ok, Err, refl, inl, inr, arith, ◌∙◌, sym}
+use Rattle.std.proofs.Common.{◌≡◌, ◌⊎◌, ◌≤◌, ℕ, List, [], None, Some, Option, IfSome, Result, Ok, Err, refl}
+use Rattle.std.proofs.Common.{inl, inr, arith, ◌∙◌, sym}
 use Rattle.fz_base.specs.Counts.{MovesOnlyAt}
 use Rattle.fz_base.specs.Files.{Held}
 use Rattle.frozen_cli.specs.declared.refusal.Refusal.{Refusal}
-use Rattle.frozen_cli.specs.declared.refusal.Refusal.TheVariants.{Usage, Missing, Unreadable, TooLarge, BadDefinition, NotYetLine, NotYetByte, NoField}
+use Rattle.frozen_cli.specs.declared.refusal.Refusal.TheVariants.{Usage, Missing, Unreadable, TooLarge}
+use Rattle.frozen_cli.specs.declared.refusal.Refusal.TheVariants.{BadDefinition, BadValue, NotYetLine}
+use Rattle.frozen_cli.specs.declared.refusal.Refusal.TheVariants.{NotYetByte, NoField}
 use Rattle.frozen_cli.specs.declared.refusal.Failure.{Failure}
 use Rattle.frozen_cli.specs.declared.refusal.Failure.TheVariants.{Refused, NoMemory}
 use Rattle.frozen_cli.specs.Stages.{HeldStageGives}
@@ -19,6 +22,7 @@ status_small (Missing role) = omega arith
 status_small (Unreadable role) = omega arith
 status_small (TooLarge role) = omega arith
 status_small (BadDefinition fault) = omega arith
+status_small (BadValue fault) = omega arith
 status_small (NotYetLine line) = omega arith
 status_small (NotYetByte byte) = omega arith
 status_small (NoField byte) = omega arith
@@ -30,6 +34,7 @@ unreadable_status (Missing role) u = absurd u
 unreadable_status (Unreadable role) u = refl
 unreadable_status (TooLarge role) u = absurd u
 unreadable_status (BadDefinition fault) u = absurd u
+unreadable_status (BadValue fault) u = absurd u
 unreadable_status (NotYetLine line) u = absurd u
 unreadable_status (NotYetByte byte) u = absurd u
 unreadable_status (NoField byte) u = absurd u
@@ -41,12 +46,14 @@ missing_status (Missing role) u = refl
 missing_status (Unreadable role) u = absurd u
 missing_status (TooLarge role) u = absurd u
 missing_status (BadDefinition fault) u = absurd u
+missing_status (BadValue fault) u = absurd u
 missing_status (NotYetLine line) u = absurd u
 missing_status (NotYetByte byte) u = absurd u
 missing_status (NoField byte) u = absurd u
 
 -- what holds of each map that may be told holds where it is told
-where_told : {P Q : Held → Type 0} → ((h : Held) → P h → Q h) → (held : Option Held) → IfSome held P → IfSome held Q
+where_told : {P Q : Held → Type 0} → ((h : Held) → P h → Q h) → (held : Option Held) → IfSome held P
+    → IfSome held Q
 where_told f None p = tt
 where_told f (Some h) p = f h p
 
@@ -60,10 +67,13 @@ moves_at : {before now : ℕ} {P Q : Type 0} → (P → Q) → MovesOnlyAt befor
 moves_at f (inl p) = inl (f p)
 moves_at f (inr same) = inr same
 
-module _ {T : Type 0} (view : T → List ℕ) (words : List (List ℕ)) (files : Seen) (out err : Sent) (status : ℕ) where
+module _ {T : Type 0} (view : T → List ℕ) (words : List (List ℕ)) (files : Seen) (out err : Sent)
+    (status : ℕ) where
   -- a refusal at status 4 is of a file
-  missing_or_unreadable : (r : Refusal) → HeldStageGives {T = T} files.held view (CommandGives words) (Err (Refused r))
-      → (IsMissing r → HasMissed files) → (IsUnreadable r → HasFaulted files) → status_of r ≡ 4 → Takes err (line_of r)
+  missing_or_unreadable : (r : Refusal)
+      → HeldStageGives {T = T} files.held view (CommandGives words) (Err (Refused r))
+      → (IsMissing r → HasMissed files) → (IsUnreadable r → HasFaulted files) → status_of r ≡ 4
+      → Takes err (line_of r)
       → FileMissing words files err ⊎ FileUnreadable words files err
   missing_or_unreadable Usage g m u s e = absurd (omega (arith, s))
   missing_or_unreadable (Missing role) g m u s e =
@@ -71,6 +81,7 @@ module _ {T : Type 0} (view : T → List ℕ) (words : List (List ℕ)) (files :
   missing_or_unreadable (Unreadable role) g m u s e = inr (role, u tt, e, g)
   missing_or_unreadable (TooLarge role) g m u s e = absurd (omega (arith, s))
   missing_or_unreadable (BadDefinition fault) g m u s e = absurd (omega (arith, s))
+  missing_or_unreadable (BadValue fault) g m u s e = absurd (omega (arith, s))
   missing_or_unreadable (NotYetLine line) g m u s e = absurd (omega (arith, s))
   missing_or_unreadable (NotYetByte byte) g m u s e = absurd (omega (arith, s))
   missing_or_unreadable (NoField byte) g m u s e = absurd (omega (arith, s))
@@ -96,7 +107,8 @@ module _ {T : Type 0} (view : T → List ℕ) (words : List (List ℕ)) (files :
     kept = c.kept;
     reply = λ le. absurd (omega (arith, d.0, le));
     read_fault = λ s. absurd (omega (arith, d.0, s));
-    write_fault = λ s. inl ((d.1).failed, where_told (λ h p. (view t, inl (refl, refl, p), d.1)) files.held g, d.2);
+    write_fault =
+        λ s. inl ((d.1).failed, where_told (λ h p. (view t, inl (refl, refl, p), d.1)) files.held g, d.2);
     memory = λ s. absurd (omega (arith, d.0, s));
     missed = never c.unmissed;
     unread = never c.unfailed;
@@ -112,7 +124,15 @@ module _ {T : Type 0} (view : T → List ℕ) (words : List (List ℕ)) (files :
   refused r g c (o, inl d) = record {
     status_most = omega (arith, d.0, status_small r);
     kept = c.kept;
-    reply = λ le. where_told (λ h p. ([], line_of r, inr (r, (λ u. absurd (omega (arith, d.0, unreadable_status r u))), d.0, refl, refl, p), o, d.1)) files.held g;
+    reply = λ le. where_told
+        (λ h p. (
+          [],
+          line_of r,
+          inr (r, (λ u. absurd (omega (arith, d.0, unreadable_status r u))), d.0, refl, refl, p),
+          o,
+          d.1,
+        ))
+        files.held g;
     read_fault = λ s. (o, missing_or_unreadable r g c.missing.rose c.unreadable.rose (sym d.0 ∙ s) d.1);
     write_fault = λ s. absurd (omega (arith, d.0, s, status_small r));
     memory = λ s. absurd (omega (arith, d.0, s, status_small r));
@@ -120,7 +140,10 @@ module _ {T : Type 0} (view : T → List ℕ) (words : List (List ℕ)) (files :
     unread = moves_at (λ u. (r, u, o, inl (d.0 ∙ unreadable_status r u, d.1))) c.unfailed;
     out_failed = inr o.unfailed;
     err_failed = inr (d.1).unfailed;
-    complete = where_told (λ h p nf oo ee. inr ([], line_of r, inr (r, (λ u. nf (c.unreadable.rose u)), d.0, refl, refl, p), o, d.1)) files.held g;
+    complete =
+        where_told
+        (λ h p nf oo ee. inr
+        ([], line_of r, inr (r, (λ u. nf (c.unreadable.rose u)), d.0, refl, refl, p), o, d.1)) files.held g;
   }
   refused r g c (o, inr (inl d)) = record {
     status_most = omega (arith, d.0);
@@ -150,7 +173,8 @@ module _ {T : Type 0} (view : T → List ℕ) (words : List (List ℕ)) (files :
   }
 
   -- there is not enough memory, and nothing is written
-  wanting : HeldStageGives {T = T} files.held view (CommandGives words) (Err NoMemory) → ReadsFiles {T = T} files (Err NoMemory)
+  wanting : HeldStageGives {T = T} files.held view (CommandGives words) (Err NoMemory)
+      → ReadsFiles {T = T} files (Err NoMemory)
       → Delivers {T = T} view (Err NoMemory) status out err → Runs words files out err status
   wanting g c d = record {
     status_most = omega (arith, d.0);
@@ -166,7 +190,8 @@ module _ {T : Type 0} (view : T → List ℕ) (words : List (List ℕ)) (files :
     complete = where_told (λ h p nf oo ee. inl d.0) files.held g;
   }
 
-  pub runs : (answer : Result T Failure) → HeldStageGives files.held view (CommandGives words) answer → ReadsFiles files answer
+  pub runs : (answer : Result T Failure) → HeldStageGives files.held view (CommandGives words) answer
+      → ReadsFiles files answer
       → Delivers view answer status out err → Runs words files out err status
   runs (Ok t) g c d = written t g c d
   runs (Err (Refused r)) g c d = refused r g c d

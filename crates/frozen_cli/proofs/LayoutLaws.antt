@@ -1,11 +1,13 @@
 -- The sum of a layout's widths, field by field.
-use Rattle.std.proofs.Common.{◌≡◌, ◌≤◌, ◌<◌, ◌+◌, ◌*◌, ◌∷◌, [], ℕ, zero, suc, List, length, drop, get_or, ap, arith}
+use Rattle.std.proofs.Common.{◌≡◌, ◌≤◌, ◌<◌, ◌+◌, ◌*◌, ◌∷◌, [], ℕ, zero, suc, List, length, drop, get_or, ap}
+use Rattle.std.proofs.Common.{arith}
 use Rattle.std.specs.List.{AllByRecursion}
 use Rattle.std.proofs.lemmas.List.{drop_more, drop_all}
 use Rattle.frozen_cli.specs.Layout.{stride}
 
 -- the widths from a field on: its own, and those after it
-pub stride_rest : (ws : List ℕ) (i : ℕ) → i < length ws → stride (drop i ws) ≡ get_or ws i 0 + stride (drop (i + 1) ws)
+pub stride_rest : (ws : List ℕ) (i : ℕ) → i < length ws
+    → stride (drop i ws) ≡ get_or ws i 0 + stride (drop (i + 1) ws)
 stride_rest ws i h = ap stride (drop_more ws i 0 h)
 
 -- behind the last field nothing is left

@@ -1,5 +1,6 @@
 -- The layout whose widths are the needs of the numbers is the least one.
-use Rattle.std.proofs.Common.{◌≤◌, ◌<◌, ◌∷◌, [], ℕ, zero, suc, ℤ, pos, negsuc, List, length, map, refl, arith, w32, get_or, ◌∙◌, ◌++◌}
+use Rattle.std.proofs.Common.{◌≤◌, ◌<◌, ◌∷◌, [], ℕ, zero, suc, ℤ, pos, negsuc, List, length, map, refl, arith}
+use Rattle.std.proofs.Common.{w32, get_or, ◌∙◌, ◌++◌}
 use Rattle.std.specs.Prelude.{FitsSigned}
 use Rattle.std.specs.List.{AllByRecursion}
 use Rattle.std.proofs.lemmas.List.{length-map}
@@ -13,7 +14,8 @@ need_within (pos zero) h = omega arith
 need_within (pos (suc n)) h = omega (arith, digits_within (suc n) 31 (omega arith))
 need_within (negsuc n) h = omega (arith, digits_within n 31 (omega arith))
 
-needs_within : (xs : List ℤ) → AllByRecursion (FitsSigned w32) xs → AllByRecursion (λ w. w ≤ 32) (map need_signed xs)
+needs_within : (xs : List ℤ) → AllByRecursion (FitsSigned w32) xs
+    → AllByRecursion (λ w. w ≤ 32) (map need_signed xs)
 needs_within [] h = tt
 needs_within (x ∷ xs) h = (need_within x h.0, needs_within xs h.1)
 
@@ -42,10 +44,12 @@ needs_are_least n xs h = record {
 }
 
 -- numbers that are all in range, place by place
-pub ranges_of : (xs : List ℤ) → ((i : ℕ) (d : ℤ) → i < length xs → FitsSigned w32 (get_or xs i d)) → AllByRecursion (FitsSigned w32) xs
+pub ranges_of : (xs : List ℤ) → ((i : ℕ) (d : ℤ) → i < length xs → FitsSigned w32 (get_or xs i d))
+    → AllByRecursion (FitsSigned w32) xs
 ranges_of [] h = tt
 ranges_of (x ∷ xs) h = (h 0 (pos 0) (omega arith), ranges_of xs (λ i d l. h (suc i) d (omega arith)))
 
-pub all_push : {X : Type 0} (P : X → Type 0) (xs : List X) (y : X) → AllByRecursion P xs → P y → AllByRecursion P (xs ++ y ∷ [])
+pub all_push : {X : Type 0} (P : X → Type 0) (xs : List X) (y : X) → AllByRecursion P xs → P y
+    → AllByRecursion P (xs ++ y ∷ [])
 all_push P [] y h p = (p, tt)
 all_push P (x ∷ xs) y h p = (h.0, all_push P xs y h.1 p)

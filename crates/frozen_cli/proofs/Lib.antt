@@ -7,3 +7,4 @@ pub mod LeastLaws
 pub mod FileLaws
 pub mod OpeningLaws
 pub mod FieldLaws
+pub mod NumberLaws

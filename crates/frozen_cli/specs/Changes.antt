@@ -48,7 +48,8 @@ pub record HasCauses (files : Seen) (is_missing is_unreadable : Type 0) : Type 0
   pub unmissed : MovesOnlyAt files.misses files.misses_after is_missing
   pub unfailed : MovesOnlyAt files.faults files.faults_after is_unreadable
 
--- what a call that reads files does to them: it is refused as `missing` and as `unreadable` exactly as they count
+-- what a call that reads files does to them: it is refused as `missing` and as `unreadable` exactly as they
+-- count
 abbrev pub ReadsFiles : {T : Type 0} → Seen → Result T Failure → Type 0
 ReadsFiles files result =
     HasCauses files (IsErrAnd result (IsRefused IsMissing)) (IsErrAnd result (IsRefused IsUnreadable))

@@ -1,4 +1,5 @@
--- What the program needs of a definition: its root's fields, the field of a name, and the form of a root that is built.
+-- What the program needs of a definition: its root's fields, the field of a name, and the form of a root that
+-- is built.
 use Rattle.std.specs.Prelude.{◌≡◌, ◌<◌, ◌≤◌, ℕ, suc, ℤ, pos, List, [], ◌∷◌, length, Option, find}
 use Rattle.std.specs.Str.{bytes_eq}
 use Rattle.idl_profile.specs.declared.kinds.Need.TheVariants.{Plain}
@@ -13,7 +14,8 @@ field_count d = length (fields_of (root_of d))
 abbrev pub field_named : List Named → List ℕ → Option DefField
 field_named d name = find (λ f. bytes_eq f.name name) (fields_of (root_of d))
 
--- a field of the form that is built: it has that id, is neither required nor optional, is an i32, and has no default
+-- a field of the form that is built: it has that id, is neither required nor optional, is an i32, and has no
+-- default
 pub record IsThinField (id : ℕ) (f : DefField) : Type 0 where
   pub numbered : f.id ≡ pos id
   pub plain : f.need ≡ Plain

@@ -6,7 +6,8 @@ use Rattle.frozen_cli.specs.Layout.{Holds, Least}
 use Rattle.frozen_cli.specs.Packing.{IsPacking}
 use Rattle.frozen_cli.specs.Schema.{schema}
 
--- what stands in front of a file's content: the magic, the length of the schema as a little-endian u32, and the schema
+-- what stands in front of a file's content: the magic, the length of the schema as a little-endian u32, and
+-- the schema
 unfoldable pub front : List ℕ → List ℕ
 front ws = codes "FZ2P" ++ (little_bytes 4 (length (schema ws)) ++ schema ws)
 

@@ -39,7 +39,8 @@ Narrower [] (m ∷ ms) = ⊥
 Narrower (w ∷ ws) [] = ⊥
 Narrower (w ∷ ws) (m ∷ ms) = (w ≤ m) × Narrower ws ms
 
--- the least layout of a value: it holds the value, no layout that holds it is narrower anywhere, and each width is
+-- the least layout of a value: it holds the value, no layout that holds it is narrower anywhere, and each
+-- width is
 -- what its number needs
 pub record Least (n : ℕ) (ws : List ℕ) (xs : List ℤ) : Type 0 where
   pub holds : Holds n ws xs

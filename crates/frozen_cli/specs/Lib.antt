@@ -2,6 +2,7 @@ pub mod Refusal
 pub mod Stages
 pub mod Changes
 pub mod Layout
+pub mod Numbers
 pub mod Schema
 pub mod Packing
 pub mod File

@@ -2,7 +2,8 @@
 use Rattle.std.specs.Prelude.{◌≡◌, ◌<◌, ℕ, ℤ, List, [], ◌∷◌, ◌++◌, Bool, false, replicate}
 use Rattle.frozen_model.specs.Bits.{bits, bits_of, complement}
 
--- the bits of the value: field after field by rising id with no gap, each number in two's complement of its field's
+-- the bits of the value: field after field by rising id with no gap, each number in two's complement of its
+-- field's
 -- width, lowest bit first
 abbrev pub image : List ℕ → List ℤ → List Bool
 image [] xs = []

@@ -1,13 +1,19 @@
 -- Why a command is refused: the exit status and the line of each refusal.
 use Rattle.std.specs.Prelude.{◌⊎◌, ℕ, List, [], ◌∷◌, ◌++◌, codes, ⊤}
-use Rattle.std.specs.Fmt.{decimal}
+use Rattle.std.specs.Fmt.{decimal, signed_decimal}
 use Rattle.idl_parse.specs.declared.fault.DefFault.{DefFault}
 use Rattle.idl_parse.specs.declared.fault.DefFault.TheVariants as faults
+use Rattle.compact_wire.specs.declared.fault.WireFault.{WireFault}
+use Rattle.compact_wire.specs.declared.fault.WireFault.TheVariants as wire
+use Rattle.typed_reading.specs.declared.fault.ValueFault.{ValueFault}
+use Rattle.typed_reading.specs.declared.fault.ValueFault.TheVariants as value
 use Rattle.frozen_cli.specs.declared.refusal.Role.{Role}
 use Rattle.frozen_cli.specs.declared.refusal.Role.TheVariants.{Definition, Value, File}
 use Rattle.frozen_cli.specs.declared.refusal.Refusal.{Refusal}
 use Rattle.frozen_cli.specs.declared.refusal.Refusal.TheVariants.{Usage, Missing, Unreadable, TooLarge}
-use Rattle.frozen_cli.specs.declared.refusal.Refusal.TheVariants.{BadDefinition, NotYetLine, NotYetByte, NoField}
+use Rattle.frozen_cli.specs.declared.refusal.Refusal.TheVariants.{BadDefinition, BadValue, NotYetLine}
+use Rattle.frozen_cli.specs.declared.refusal.Refusal.TheVariants.{NotYetByte}
+use Rattle.frozen_cli.specs.declared.refusal.Refusal.TheVariants.{NoField}
 use Rattle.frozen_cli.specs.declared.refusal.Failure.{Failure}
 use Rattle.frozen_cli.specs.declared.refusal.Failure.TheVariants.{Refused, NoMemory}
 
@@ -34,12 +40,32 @@ fault_text (faults.StructTooWide line) = codes "12 line " ++ decimal line
 fault_text faults.NoRoot = codes "13"
 fault_text faults.NoMemory = []
 
+-- why bytes spell no struct: the number, and the place where it has one
+abbrev pub wire_text : WireFault → List ℕ
+wire_text wire.Truncated = codes "1"
+wire_text (wire.Malformed place) = codes "2 at " ++ decimal place
+wire_text (wire.Trailing place) = codes "3 at " ++ decimal place
+wire_text wire.NoMemory = []
+
+-- the number of a value's fault, and its node, its field or the cells
+abbrev pub value_text : ValueFault → List ℕ
+value_text (value.Wire fault) = codes "wire " ++ wire_text fault
+value_text (value.RepeatedField node) = codes "1 node " ++ decimal node
+value_text (value.MissingRequired node id) =
+    codes "2 node " ++ (decimal node ++ (codes " field " ++ signed_decimal id))
+value_text (value.WrongType node) = codes "3 node " ++ decimal node
+value_text (value.BadText node) = codes "4 node " ++ decimal node
+value_text (value.RepeatedKey node) = codes "5 node " ++ decimal node
+value_text (value.TooManyCells cells) = codes "6 cells " ++ decimal cells
+value_text value.NoMemory = []
+
 -- the exit status
 abbrev pub status_of : Refusal → ℕ
 status_of Usage = 2
 status_of (NoField _) = 2
 status_of (TooLarge _) = 3
 status_of (BadDefinition _) = 3
+status_of (BadValue _) = 3
 status_of (NotYetLine _) = 3
 status_of (NotYetByte _) = 3
 status_of (Missing _) = 4
@@ -52,6 +78,7 @@ refusal_text (Missing role) = role_name role ++ codes " missing"
 refusal_text (Unreadable role) = role_name role ++ codes " unreadable"
 refusal_text (TooLarge role) = role_name role ++ codes " too large"
 refusal_text (BadDefinition fault) = codes "definition " ++ fault_text fault
+refusal_text (BadValue fault) = codes "value " ++ value_text fault
 refusal_text (NotYetLine line) = codes "notyet line " ++ decimal line
 refusal_text (NotYetByte byte) = codes "notyet byte " ++ decimal byte
 refusal_text (NoField byte) = codes "path 2 at " ++ decimal byte
@@ -71,6 +98,7 @@ IsMissing Usage = ⊥
 IsMissing (Unreadable _) = ⊥
 IsMissing (TooLarge _) = ⊥
 IsMissing (BadDefinition _) = ⊥
+IsMissing (BadValue _) = ⊥
 IsMissing (NotYetLine _) = ⊥
 IsMissing (NotYetByte _) = ⊥
 IsMissing (NoField _) = ⊥
@@ -82,6 +110,7 @@ IsUnreadable Usage = ⊥
 IsUnreadable (Missing _) = ⊥
 IsUnreadable (TooLarge _) = ⊥
 IsUnreadable (BadDefinition _) = ⊥
+IsUnreadable (BadValue _) = ⊥
 IsUnreadable (NotYetLine _) = ⊥
 IsUnreadable (NotYetByte _) = ⊥
 IsUnreadable (NoField _) = ⊥

@@ -4,18 +4,24 @@ use Rattle.std.specs.Prelude.{codes, if◌then◌else◌, None, Some, Option, Is
 use Rattle.std.specs.Fmt.{signed_decimal}
 use Rattle.std.specs.Str.{bytes_eq}
 use Rattle.fz_base.specs.Files.{Held}
-use Rattle.frozen_cli.specs.declared.refusal.Role.TheVariants.{Definition, Value, File as FileRole}
+use Rattle.frozen_cli.specs.declared.refusal.Role.TheVariants.{Definition, Value as ValueRole}
+use Rattle.frozen_cli.specs.declared.refusal.Role.TheVariants.{File as FileRole}
 use Rattle.frozen_cli.specs.declared.refusal.Refusal.{Refusal}
-use Rattle.frozen_cli.specs.declared.refusal.Refusal.TheVariants.{Usage, BadDefinition, NotYetLine, NotYetByte, NoField}
+use Rattle.frozen_cli.specs.declared.refusal.Refusal.TheVariants.{Usage, BadDefinition, BadValue, NotYetLine}
+use Rattle.frozen_cli.specs.declared.refusal.Refusal.TheVariants.{NotYetByte, NoField}
 use Rattle.frozen_cli.specs.Refusal.{status_of, line_of, IsUnreadable}
 use Rattle.frozen_cli.specs.Stages.{ThenStage, ReadStage}
 use Rattle.frozen_cli.specs.Path.{FieldPath}
-use Rattle.idl_profile.specs.Types.{Named}
+use Rattle.idl_profile.specs.Types.{Named, root_of}
 use Rattle.idl_parse.specs.declared.fault.DefFault.{DefFault}
 use Rattle.idl_parse.specs.Parsed.{DefText, FirstFault}
 use Rattle.idl_print.specs.Printed.{printed}
-use Rattle.compact_wire.specs.Thin.{IsThin}
+use Rattle.frozen_model.specs.Values.{Value}
+use Rattle.typed_reading.specs.declared.fault.ValueFault.{ValueFault}
+use Rattle.typed_reading.specs.declared.fault.ValueFault.TheVariants.{NoMemory}
+use Rattle.compact_codec.specs.Decoding.{IsDecoded}
 use Rattle.frozen_cli.specs.Definition.{field_count, field_named, HasThinRoot}
+use Rattle.frozen_cli.specs.Numbers.{numbers_of}
 use Rattle.frozen_cli.specs.File.{FileOf, LeastFile}
 
 -- a command with its words
@@ -29,8 +35,10 @@ abbrev pub form_of : List (List ℕ) → Option Form
 form_of [] = None
 form_of (command ∷ []) = None
 form_of (command ∷ def ∷ []) = if bytes_eq command (codes "print") then Some (print def) else None
-form_of (command ∷ def ∷ value ∷ []) = if bytes_eq command (codes "freeze") then Some (freeze def value) else None
-form_of (command ∷ def ∷ file ∷ path ∷ []) = if bytes_eq command (codes "get") then Some (get def file path) else None
+form_of (command ∷ def ∷ value ∷ []) =
+    if bytes_eq command (codes "freeze") then Some (freeze def value) else None
+form_of (command ∷ def ∷ file ∷ path ∷ []) =
+    if bytes_eq command (codes "get") then Some (get def file path) else None
 form_of (command ∷ def ∷ file ∷ path ∷ w ∷ ws) = None
 
 -- the stage of the words: their form
@@ -53,10 +61,12 @@ abbrev pub RootStage : List Named → Result (List Named) Refusal → Type 0
 RootStage d (Ok same) = (same ≡ d) × HasThinRoot d
 RootStage d (Err r) = (r ≡ NotYetLine 1) × (HasThinRoot d → ⊥)
 
--- the stage of a value: a number for each field
-abbrev pub ValueStage : List Named → List ℕ → Result (List ℤ) Refusal → Type 0
-ValueStage d bytes (Ok xs) = IsThin (field_count d) xs bytes
-ValueStage d bytes (Err r) = (r ≡ NotYetByte 0) × ((xs : List ℤ) → IsThin (field_count d) xs bytes → ⊥)
+-- the stage of a value: what the bytes mean as the root's type, or why they mean nothing
+abbrev pub ValueStage : List Named → List ℕ → Result Value Refusal → Type 0
+ValueStage d bytes (Ok v) = IsDecoded (root_of d) bytes (Ok v)
+ValueStage d bytes (Err r) =
+    (fault : ValueFault) × IsDecoded (root_of d) bytes (Err fault) × (fault ≡ NoMemory → ⊥)
+    × (r ≡ BadValue fault)
 
 -- the stage of a frozen file: the value that it holds
 abbrev pub FileStage : List Named → List ℕ → Result (List ℤ) Refusal → Type 0
@@ -77,17 +87,17 @@ abbrev pub ThinDefinitionIn : Option (List ℕ) → Result (List Named) Refusal 
 ThinDefinitionIn file = ThenStage (DefinitionIn file) RootStage
 
 -- the value in a file
-abbrev pub ValueIn : List Named → Option (List ℕ) → Result (List ℤ) Refusal → Type 0
-ValueIn d file = ThenStage (ReadStage Value (2 ^ 26) file) (ValueStage d)
+abbrev pub ValueIn : List Named → Option (List ℕ) → Result Value Refusal → Type 0
+ValueIn d file = ThenStage (ReadStage ValueRole (2 ^ 26) file) (ValueStage d)
 
 -- the value that a frozen file holds
 abbrev pub FileIn : List Named → Option (List ℕ) → Result (List ℤ) Refusal → Type 0
 FileIn d file = ThenStage (ReadStage FileRole (2 ^ 30) file) (FileStage d)
 
 -- the output of `freeze`: the frozen file of the value in its least layout
-abbrev pub Freezes : List Named → List ℤ → Result (List ℕ) Refusal → Type 0
-Freezes d xs (Ok out) = LeastFile (field_count d) out xs
-Freezes d xs (Err r) = ⊥
+abbrev pub Freezes : List Named → Value → Result (List ℕ) Refusal → Type 0
+Freezes d v (Ok out) = LeastFile (field_count d) out (numbers_of v)
+Freezes d v (Err r) = ⊥
 
 -- the number of the field with that id
 abbrev pub number_of : List ℤ → ℤ → Option ℤ
@@ -102,7 +112,7 @@ Shows xs id (Err r) = ⊥
 
 -- under a definition: the value in a file, and the frozen file of it
 abbrev pub FrozenUnder : Held → List ℕ → List Named → Result (List ℕ) Refusal → Type 0
-FrozenUnder held value d = ThenStage (ValueIn d (held value)) (λ xs. Freezes d xs)
+FrozenUnder held value d = ThenStage (ValueIn d (held value)) (λ v. Freezes d v)
 
 -- what `freeze` gives
 abbrev pub FreezeGives : Held → List ℕ → List ℕ → Result (List ℕ) Refusal → Type 0
@@ -110,7 +120,8 @@ FreezeGives held def value = ThenStage (ThinDefinitionIn (held def)) (λ d. Froz
 
 -- in a file under a definition: the value, the field of that name, and the text of its number
 abbrev pub PartUnder : Held → List ℕ → List Named → List ℕ → Result (List ℕ) Refusal → Type 0
-PartUnder held file d name = ThenStage (FileIn d (held file)) (λ xs. ThenStage (FieldStage d name) (λ id. Shows xs id))
+PartUnder held file d name =
+    ThenStage (FileIn d (held file)) (λ xs. ThenStage (FieldStage d name) (λ id. Shows xs id))
 
 -- under a definition in a file: the part of a frozen file
 abbrev pub PartIn : Held → List ℕ → List ℕ → List ℕ → Result (List ℕ) Refusal → Type 0

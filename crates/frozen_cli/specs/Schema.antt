@@ -1,4 +1,5 @@
--- The description of a layout of i32 fields in front of a file's content: a Schema, spelled in Compact Protocol.
+-- The description of a layout of i32 fields in front of a file's content: a Schema, spelled in Compact
+-- Protocol.
 use Rattle.std.specs.Prelude.{ℕ, zero, suc, ◌+◌, ℤ, pos, neg_ℤ, List, [], ◌∷◌, ◌++◌, length, codes}
 use Rattle.frozen_cli.specs.Layout.{stride}
 use Rattle.compact_wire.specs.Number.{shortest, zigzag}
@@ -7,7 +8,8 @@ use Rattle.compact_wire.specs.Number.{shortest, zigzag}
 abbrev pub signed_number : ℤ → List ℕ
 signed_number x = shortest (zigzag x)
 
--- A field with the id after the one before it begins with the byte 16 + its type code: 4 is i16, 5 i32, 8 a text,
+-- A field with the id after the one before it begins with the byte 16 + its type code: 4 is i16, 5 i32, 8 a
+-- text,
 -- 11 a map.
 abbrev pub i16_field : ℤ → List ℕ
 i16_field x = 20 ∷ signed_number x
@@ -18,12 +20,14 @@ i32_field x = 21 ∷ signed_number x
 abbrev pub text_field : List ℕ → List ℕ
 text_field text = 24 ∷ (shortest (length text) ++ text)
 
--- the head of a map field: its size, and where it is not empty the codes of its keys, i16, and its values, structs
+-- the head of a map field: its size, and where it is not empty the codes of its keys, i16, and its values,
+-- structs
 abbrev pub map_head : ℕ → List ℕ
 map_head zero = 27 ∷ shortest 0
 map_head (suc n) = 27 ∷ (shortest (suc n) ++ 76 ∷ [])
 
--- where the root's child with that number stands: under its id, which is that number, the child's layout and minus its
+-- where the root's child with that number stands: under its id, which is that number, the child's layout and
+-- minus its
 -- bit offset
 abbrev pub child : ℕ → ℕ → List ℕ
 child number offset =

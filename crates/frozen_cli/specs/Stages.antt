@@ -1,5 +1,6 @@
 -- Stages of a command: each gives a refusal, or a result that the next ones take.
-use Rattle.std.specs.Prelude.{◌≡◌, ◌⊎◌, ◌≤◌, ◌<◌, ℕ, List, ⊤, None, Some, Option, IfSome, Result, Ok, Err, length}
+use Rattle.std.specs.Prelude.{◌≡◌, ◌⊎◌, ◌≤◌, ◌<◌, ℕ, List, ⊤, None, Some, Option, IfSome, Result, Ok, Err}
+use Rattle.std.specs.Prelude.{length}
 use Rattle.fz_base.specs.Files.{Held}
 use Rattle.frozen_cli.specs.declared.refusal.Role.{Role}
 use Rattle.frozen_cli.specs.declared.refusal.Refusal.{Refusal}
@@ -18,7 +19,8 @@ abbrev pub ReadStage : Role → ℕ → Option (List ℕ) → Result (List ℕ) 
 ReadStage role limit None (Ok bytes) = ⊥
 ReadStage role limit None (Err r) = (r ≡ Missing role) ⊎ (r ≡ Unreadable role)
 ReadStage role limit (Some file) (Ok bytes) = (bytes ≡ file) × (length file ≤ limit)
-ReadStage role limit (Some file) (Err r) = ((limit < length file) × (r ≡ TooLarge role)) ⊎ (r ≡ Unreadable role)
+ReadStage role limit (Some file) (Err r) =
+    ((limit < length file) × (r ≡ TooLarge role)) ⊎ (r ≡ Unreadable role)
 
 -- what a function answered is what its stage gives, want of memory aside
 abbrev pub StageGives : {T A : Type 0} → (T → A) → (Result A Refusal → Type 0) → Result T Failure → Type 0

@@ -1,6 +1,10 @@
 // What a command answers, stage after stage, before anything is written.
 ghost use Rattle.std.specs.Prelude.{◌≡◌, IfOk, length, map, string_bytes};
+ghost use Rattle.idl_profile.specs.Types.{root_of};
 ghost use Rattle.idl_parse.specs.Parsed.{definition_of};
+ghost use Rattle.frozen_model.specs.Values.{Of};
+ghost use Rattle.type_kinds.specs.KindsOf.{kinds_of};
+ghost use Rattle.typed_tree.specs.References.{value_of_tree};
 ghost use Rattle.frozen_cli.specs.Definition.{field_count, HasThinRoot};
 ghost use Rattle.frozen_cli.specs.Stages.{HeldStageGives};
 ghost use Rattle.frozen_cli.specs.Changes.{seen, ReadsFiles};
@@ -14,6 +18,7 @@ use crate::words::{Command, parse_words};
 use fz_base::Files;
 use std::alloc::Global;
 use thrift_idl::Definition;
+use typed_tree::Tree;
 
 /// The most bytes of a definition text.
 const MAX_DEFINITION: u64 = 1 << 20;
@@ -55,9 +60,10 @@ fn value_in<F: Files>(
     files: &mut F,
     def: &Definition,
     name: &str,
-) -> Result<Vec<i32>, Failure>
-    ensures fields { IfOk result (λ xs. length xs.items ≡ field_count (definition_of def.now)) }
-    ensures gives { HeldStageGives (F.held files.old) (λ xs. xs.items)
+) -> Result<Tree, Failure>
+    ensures kinds { IfOk result (λ tree.
+        Of (kinds_of (root_of (definition_of def.now))) (value_of_tree tree)) }
+    ensures gives { HeldStageGives (F.held files.old) value_of_tree
         (λ held. ValueIn (definition_of def.now) (held name.now)) result }
     ensures reads { ReadsFiles (seen F.held F.misses F.faults files.old files.new) result }
 {

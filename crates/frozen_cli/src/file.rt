@@ -66,8 +66,8 @@ const LEAF: usize = 13;
 /// The place of the width's byte in a field's layout.
 const WIDTH: usize = 4;
 
-/// The bytes at which a file of that many fields has the layouts of its fields, or `None` where the bytes are too few
-/// for such a file.
+/// The bytes at which a file of that many fields has the layouts of its fields, or `None` where the bytes are
+/// too few for such a file.
 fn leaves_in(fields: usize, bytes: &[u8]) -> Option<&[u8]>
     requires { fields ≤ MAX_FIELDS }
     ensures len { IfSome result (λ part. length part.now ≡ LEAF * fields) }
@@ -102,8 +102,8 @@ fn width_of(code: u8) -> Option<u32>
     Some(u32::from(code / 2))
 }
 
-/// The layout of a file of that many fields, by the byte that each field's width has in it, or `None` where the bytes
-/// are too few, or one of these is the byte of no width.
+/// The layout of a file of that many fields, by the byte that each field's width has in it, or `None` where
+/// the bytes are too few, or one of these is the byte of no width.
 fn layout_in(alloc: Global, fields: usize, bytes: &[u8]) -> Result<Option<Layout>, AllocError>
     requires { fields ≤ MAX_FIELDS }
     ensures layout { IfOk result (λ found. IfSome found (λ layout. IsLayout fields layout.widths.items)) }

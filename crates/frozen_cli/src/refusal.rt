@@ -2,9 +2,11 @@
 ghost use Rattle.std.specs.Prelude.{◌≡◌, Some, IfOk, string_bytes};
 ghost use Rattle.frozen_cli.specs.declared.refusal.Failure.TheVariants.{NoMemory};
 
+use compact_wire::WireFault;
 use std::alloc::{AllocError, AllocFailed, Global};
 use std::fmt;
 use thrift_idl::DefFault;
+use typed_reading::ValueFault;
 
 /// What a named file is read for.
 #[derive(Clone, Copy, Debug, PartialEq, Eq)]
@@ -18,7 +20,7 @@ pub enum Role {
 }
 
 /// Why a command is refused.
-#[derive(Clone, Copy, Debug, PartialEq, Eq)]
+#[derive(Debug, Drop)]
 pub enum Refusal {
     /// The words have no form.
     Usage,
@@ -30,6 +32,8 @@ pub enum Refusal {
     TooLarge(Role),
     /// The definition is no definition text; the first fault, never a want of memory.
     BadDefinition(DefFault),
+    /// The bytes spell no value of the root's type; why, never a want of memory.
+    BadValue(ValueFault),
     /// The definition has a form that is not built yet; the line, from 1.
     NotYetLine(u32),
     /// The bytes have a form that is not built yet; the place, from 0.
@@ -39,7 +43,7 @@ pub enum Refusal {
 }
 
 /// Why a command has no output.
-#[derive(Clone, Copy, Debug, PartialEq, Eq)]
+#[derive(Debug, Drop)]
 pub enum Failure {
     /// It is refused.
     Refused(Refusal),
@@ -108,6 +112,50 @@ impl fmt::Display for FaultText {
     }
 }
 
+/// Why bytes spell no struct: the number, and the place where it has one.
+#[derive(Clone, Copy)]
+struct WireText<'a>(&'a WireFault);
+
+impl fmt::Display for WireText<'_> {
+    ghost use Rattle.std.specs.Prelude.{Some};
+    ghost use Rattle.frozen_cli.specs.Refusal.{wire_text};
+
+    ghost output = { λ it. Some (wire_text it.0.now) };
+
+    fn fmt<W: fmt::Write>(&self, f: &mut fmt::Formatter<W>) -> fmt::Result {
+        match self.0 {
+            WireFault::Truncated => write!(f, "1"),
+            WireFault::Malformed(place) => write!(f, "2 at {place}"),
+            WireFault::Trailing(place) => write!(f, "3 at {place}"),
+            WireFault::NoMemory => Ok(()),
+        }
+    }
+}
+
+/// The number of a value's fault, and its node, its field or the cells.
+#[derive(Clone, Copy)]
+struct ValueText<'a>(&'a ValueFault);
+
+impl fmt::Display for ValueText<'_> {
+    ghost use Rattle.std.specs.Prelude.{Some};
+    ghost use Rattle.frozen_cli.specs.Refusal.{value_text};
+
+    ghost output = { λ it. Some (value_text it.0.now) };
+
+    fn fmt<W: fmt::Write>(&self, f: &mut fmt::Formatter<W>) -> fmt::Result {
+        match self.0 {
+            ValueFault::Wire(fault) => write!(f, "wire {}", WireText(fault)),
+            ValueFault::RepeatedField { node } => write!(f, "1 node {node}"),
+            ValueFault::MissingRequired { node, field } => write!(f, "2 node {node} field {field}"),
+            ValueFault::WrongType { node } => write!(f, "3 node {node}"),
+            ValueFault::BadText { node } => write!(f, "4 node {node}"),
+            ValueFault::RepeatedKey { node } => write!(f, "5 node {node}"),
+            ValueFault::TooManyCells { cells } => write!(f, "6 cells {cells}"),
+            ValueFault::NoMemory => Ok(()),
+        }
+    }
+}
+
 impl fmt::Display for Refusal {
     ghost use Rattle.std.specs.Prelude.{Some};
     ghost use Rattle.frozen_cli.specs.Refusal.{refusal_text};
@@ -121,6 +169,7 @@ impl fmt::Display for Refusal {
             Refusal::Unreadable(role) => write!(f, "{role} unreadable"),
             Refusal::TooLarge(role) => write!(f, "{role} too large"),
             Refusal::BadDefinition(fault) => write!(f, "definition {}", FaultText(*fault)),
+            Refusal::BadValue(fault) => write!(f, "value {}", ValueText(fault)),
             Refusal::NotYetLine(line) => write!(f, "notyet line {line}"),
             Refusal::NotYetByte(byte) => write!(f, "notyet byte {byte}"),
             Refusal::NoField(byte) => write!(f, "path 2 at {byte}"),
@@ -132,13 +181,14 @@ impl Refusal {
     ghost use Rattle.frozen_cli.specs.Refusal.{status_of, line_of};
 
     /// The exit status.
-    pub fn status(self) -> u8
-        ensures { result ≡ status_of self }
+    pub fn status(&self) -> u8
+        ensures { result ≡ status_of self.now }
     {
         match self {
             Refusal::Usage | Refusal::NoField(_) => 2,
             Refusal::TooLarge(_)
             | Refusal::BadDefinition(_)
+            | Refusal::BadValue(_)
             | Refusal::NotYetLine(_)
             | Refusal::NotYetByte(_) => 3,
             Refusal::Missing(_) | Refusal::Unreadable(_) => 4,
@@ -146,8 +196,8 @@ impl Refusal {
     }
 
     /// The line that is written to err, with its newline.
-    pub fn line(self, alloc: Global) -> Result<String, AllocError>
-        ensures { IfOk result (λ text. string_bytes text ≡ line_of self) }
+    pub fn line(&self, alloc: Global) -> Result<String, AllocError>
+        ensures { IfOk result (λ text. string_bytes text ≡ line_of self.now) }
     {
         format!(in alloc; "{self}\n")
     }

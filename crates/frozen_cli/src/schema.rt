@@ -1,7 +1,8 @@
 // The description of a layout, in Compact Protocol.
 ghost use Rattle.std.specs.Prelude.{◌≡◌, ◌≤◌, ◌++◌, IfOk, OnOk, codes, length, pos, neg_ℤ};
 ghost use Rattle.std.specs.List.{AllByRecursion};
-ghost use Rattle.frozen_cli.specs.Schema.{signed_number, i16_field, i32_field, text_field, map_head, child, children};
+ghost use Rattle.frozen_cli.specs.Schema.{signed_number, i16_field, i32_field, text_field};
+ghost use Rattle.frozen_cli.specs.Schema.{map_head, child, children};
 ghost use Rattle.frozen_cli.specs.Schema.{root_layout, leaf_layout, leaf_layouts, schema};
 
 use crate::layout::{Layout, MAX_FIELDS};

@@ -6,16 +6,22 @@ ghost use Rattle.frozen_cli.specs.Refusal.{IsRefused, IsReading};
 ghost use Rattle.frozen_cli.specs.Definition.{field_count, IsIdOf, HasThinRoot};
 ghost use Rattle.frozen_cli.specs.Reply.{DefinitionStage, RootStage, ValueStage, FileStage, FieldStage};
 ghost use Rattle.frozen_cli.specs.Reply.{Freezes, Shows, Writes};
+ghost use Rattle.frozen_model.specs.Values.{Of};
+ghost use Rattle.type_kinds.specs.KindsOf.{kinds_of};
+ghost use Rattle.typed_tree.specs.References.{value_of_tree};
+ghost use Rattle.idl_profile.specs.Types.{root_of};
 ghost use Rattle.idl_print.specs.Printed.{printed as printed_text};
 ghost use Rattle.idl_parse.specs.Parsed.{definition_of};
 
 use crate::file::{freeze, open};
 use crate::refusal::{Failure, Refusal, Role};
-use crate::thin::has_thin_root;
-use compact_wire::{ThinFault, read_thin};
+use crate::thin::{field_numbers, has_thin_root};
+use compact_codec::decode;
 use fz_base::{Files, ReadFault, read_whole};
 use std::alloc::Global;
 use thrift_idl::{DefFault, Definition, parse, print};
+use typed_reading::ValueFault;
+use typed_tree::Tree;
 
 /// Reads a file of at most `limit` bytes.
 pub fn read_role<F: Files>(
@@ -74,27 +80,30 @@ pub fn thin_root(def: Definition) -> Result<Definition, Failure>
     }
 }
 
-/// The value that the bytes spell: a number for each field of the definition's root.
-pub fn value(alloc: Global, def: &Definition, bytes: &[u8]) -> Result<Vec<i32>, Failure>
-    ensures gives { StageGives (λ xs. xs.items) (ValueStage (definition_of def.now) bytes.now) result }
-    ensures fields { IfOk result (λ xs. length xs.items ≡ field_count (definition_of def.now)) }
+/// The value of the root's type that the bytes spell in Compact Protocol.
+pub fn value(alloc: Global, def: &Definition, bytes: &[u8]) -> Result<Tree, Failure>
+    ensures gives { StageGives value_of_tree (ValueStage (definition_of def.now) bytes.now) result }
+    ensures kinds { IfOk result (λ tree.
+        Of (kinds_of (root_of (definition_of def.now))) (value_of_tree tree)) }
     ensures no_file { IsErrAnd result (IsRefused IsReading) → ⊥ }
 {
-    match read_thin(alloc, bytes, def.root().field_count()) {
-        Ok(numbers) => Ok(numbers),
-        Err(ThinFault::NotYet(byte)) => Err(Failure::Refused(Refusal::NotYetByte(byte))),
-        Err(ThinFault::NoMemory) => Err(Failure::NoMemory),
+    match decode(alloc, def.root(), bytes) {
+        Ok(tree) => Ok(tree),
+        Err(ValueFault::NoMemory) => Err(Failure::NoMemory),
+        Err(fault) => Err(Failure::Refused(Refusal::BadValue(fault))),
     }
 }
 
 /// The frozen file of a value in its least layout.
-pub fn freeze_value(alloc: Global, def: &Definition, value: &[i32]) -> Result<Vec<u8>, Failure>
+pub fn freeze_value(alloc: Global, def: &Definition, value: &Tree) -> Result<Vec<u8>, Failure>
     requires root { HasThinRoot (definition_of def.now) }
-    requires fields { length value.now ≡ field_count (definition_of def.now) }
-    ensures gives { StageGives (λ out. out.items) (Freezes (definition_of def.now) value.now) result }
+    requires kinds { Of (kinds_of (root_of (definition_of def.now))) (value_of_tree value.now) }
+    ensures gives { StageGives (λ out. out.items)
+        (Freezes (definition_of def.now) (value_of_tree value.now)) result }
     ensures no_file { IsErrAnd result (IsRefused IsReading) → ⊥ }
 {
-    Ok(freeze(alloc, value)?)
+    let numbers = field_numbers(alloc, def, value.top())?;
+    Ok(freeze(alloc, &numbers)?)
 }
 
 /// The value that a frozen file holds: a number for each field of the definition's root.

@@ -8,7 +8,13 @@ use std::test::Fail;
 // The file of 5 and -1: magic and length, schema, content.
 const FILE: &[u8] =
     b"FZ2P\x40\0\0\0\x12\x1B\x03\x4C\0\x15\0\x14\x0A\x1B\x02\x4C\x02\x14\x02\x14\0\0\x04\x14\x04\x14\x07\0\
-    \x18\x06struct\0\x02\x15\0\x14\x08\x1B\0\x18\x03i32\0\x04\x15\0\x14\x02\x1B\0\x18\x03i32\0\x14\0\x15\x02\0\x15";
+    \x18\x06struct\0\x02\x15\0\x14\x08\x1B\0\x18\x03i32\0\x04\x15\0\x14\x02\x1B\0\x18\x03i32\0\x14\0\
+    \x15\x02\0\x15";
+
+// The file of 0 and 0, which has no content.
+const ZEROS: &[u8] =
+    b"FZ2P\x40\0\0\0\x12\x1B\x03\x4C\0\x15\0\x14\0\x1B\x02\x4C\x02\x14\x02\x14\0\0\x04\x14\x04\x14\0\0\
+    \x18\x06struct\0\x02\x15\0\x14\0\x1B\0\x18\x03i32\0\x04\x15\0\x14\0\x1B\0\x18\x03i32\0\x14\0\x15\x02\0";
 
 // A run's status, and what it wrote to out and to err.
 #[derive(Drop)]
@@ -48,7 +54,13 @@ fn files_of(alloc: Global, fail: u64) -> Result<MemFiles, AllocError> {
         ("value", b"\x15\x0A\x15\x01\0".as_slice()),
         ("file", FILE),
         ("list", b"struct P {1: list<i32> x}".as_slice()),
+        ("lenient", b"\x05\x02\x8A\0\x05\x04\x01\0".as_slice()),
+        ("none", b"\0".as_slice()),
         ("short", b"\x15\x0A\x15\x01".as_slice()),
+        ("code", b"\x1D".as_slice()),
+        ("behind", b"\x15\x0A\x15\x01\0\0".as_slice()),
+        ("i16", b"\x14\x0A\0".as_slice()),
+        ("twice", b"\x15\x0A\x05\x02\x0A\0".as_slice()),
         ("open", b"struct P {\n1: i32 x".as_slice()),
         ("enum", b"enum E {A}".as_slice()),
     ];
@@ -106,6 +118,8 @@ fn a_start_without_words_ends(rt: HostRuntime) -> Result<(), Fail> {
 fn runs_end_as_they_should(rt: HostRuntime) -> Result<(), Fail> {
     let rows = [
         ("freeze def value", 0, FILE, ""),
+        ("freeze def lenient", 0, FILE, ""),
+        ("freeze def none", 0, ZEROS, ""),
         ("get def file .x", 0, b"5\n".as_slice(), ""),
         ("get def file .y", 0, b"-1\n".as_slice(), ""),
         ("get def file .z", 2, b"".as_slice(), "path 2 at 0\n"),
@@ -140,7 +154,16 @@ fn runs_end_as_they_should(rt: HostRuntime) -> Result<(), Fail> {
             "",
         ),
         ("freeze def gone", 4, b"".as_slice(), "value missing\n"),
-        ("freeze def short", 3, b"".as_slice(), "notyet byte 0\n"),
+        ("freeze def short", 3, b"".as_slice(), "value wire 1\n"),
+        ("freeze def code", 3, b"".as_slice(), "value wire 2 at 0\n"),
+        (
+            "freeze def behind",
+            3,
+            b"".as_slice(),
+            "value wire 3 at 5\n",
+        ),
+        ("freeze def i16", 3, b"".as_slice(), "value 3 node 1\n"),
+        ("freeze def twice", 3, b"".as_slice(), "value 1 node 2\n"),
         ("", 2, b"".as_slice(), "usage: frozen COMMAND WORDS\n"),
         (
             "get def file",

@@ -1,12 +1,19 @@
-// The form of a root that is built: from 1 to 60 plain fields of type i32 with the ids from 1 on and no defaults.
-ghost use Rattle.std.specs.Prelude.{◌≡◌, ◌↔◌, IsTrue};
-ghost use Rattle.idl_profile.specs.Types.{without};
+// The form of a root that is built: from 1 to 60 plain fields of type i32 with the ids from 1 on and no
+// defaults; and the numbers of its values.
+ghost use Rattle.std.specs.Prelude.{◌≡◌, ◌↔◌, IsTrue, IfOk, length};
+ghost use Rattle.idl_profile.specs.Types.{without, root_of};
 ghost use Rattle.idl_parse.specs.Parsed.{definition_of};
 ghost use Rattle.idl_parse.specs.Refs.{field_of_ref, default_of_ref};
-ghost use Rattle.frozen_cli.specs.Definition.{IsThinField, HasThinRoot};
+ghost use Rattle.frozen_model.specs.Values.{Of};
+ghost use Rattle.type_kinds.specs.KindsOf.{kinds_of};
+ghost use Rattle.typed_tree.specs.References.{value_of_ref};
+ghost use Rattle.frozen_cli.specs.Definition.{field_count, IsThinField, HasThinRoot};
+ghost use Rattle.frozen_cli.specs.Numbers.{numbers_of};
 
 use crate::layout::MAX_FIELDS;
+use std::alloc::{AllocError, Global};
 use thrift_idl::{DefaultRef, Definition, FieldRef, Need, TypeKind};
+use typed_tree::TreeRef;
 
 /// Whether a field may be there or not, and has a value anyway.
 fn is_plain(need: Need) -> bool
@@ -86,4 +93,23 @@ pub fn has_thin_root(def: &Definition) -> bool
         }
     }
     true
+}
+
+/// The numbers of a value of such a root: that of each field, by rising id.
+pub fn field_numbers(
+    alloc: Global,
+    def: &Definition,
+    value: TreeRef<'_>,
+) -> Result<Vec<i32>, AllocError>
+    requires root { HasThinRoot (definition_of def.now) }
+    requires kinds { Of (kinds_of (root_of (definition_of def.now))) (value_of_ref value) }
+    ensures numbers { IfOk result (λ xs. xs.items ≡ numbers_of (value_of_ref value.entry)) }
+    ensures fields { IfOk result (λ xs. length xs.items ≡ field_count (definition_of def.now)) }
+{
+    let count = def.root().field_count();
+    let mut numbers = Vec::with_capacity(alloc, count as usize)?;
+    for place in 0..count {
+        numbers.push(value.field_at(u64::from(place)).int() as i32)?;
+    }
+    Ok(numbers)
 }

@@ -31,7 +31,9 @@ abbrev pub decreases-read_fields-fields : goal.decreases-read_fields-fields
 decreases-read_fields-fields l = length l.rest
 
 abbrev pub invariant-read_items-loop : goal.invariant-read_items-loop
-invariant-read_items-loop l = with_nodes l.found.items (items (value l.levels l.kind) (l.count - l.counter) l.rest) ≡ items (value l.levels l.kind) l.count l.bytes
+invariant-read_items-loop l =
+    with_nodes l.found.items (items (value l.levels l.kind) (l.count - l.counter) l.rest) ≡ items
+    (value l.levels l.kind) l.count l.bytes
 
 abbrev pub decreases-read_map : goal.decreases-read_map
 decreases-read_map l = 5 * l.levels + 3
@@ -43,4 +45,7 @@ abbrev pub decreases-read_pairs : goal.decreases-read_pairs
 decreases-read_pairs l = 5 * l.levels + 1
 
 abbrev pub invariant-read_pairs-loop : goal.invariant-read_pairs-loop
-invariant-read_pairs-loop l = with_pairs l.found.items (pairs (value l.levels l.key_kind) (value l.levels l.value_kind) (l.count - l.counter) l.rest) ≡ pairs (value l.levels l.key_kind) (value l.levels l.value_kind) l.count l.bytes
+invariant-read_pairs-loop l =
+    with_pairs l.found.items
+    (pairs (value l.levels l.key_kind) (value l.levels l.value_kind) (l.count - l.counter) l.rest) ≡ pairs
+    (value l.levels l.key_kind) (value l.levels l.value_kind) l.count l.bytes

@@ -8,15 +8,19 @@ use Rattle.compact_wire.proofs.writing.+write.Given as goal
 
 abbrev pub invariant-push_items-loop-item : goal.invariant-push_items-loop-item
 invariant-push_items-loop-item l =
-    (l.out.items ++ canon_items (nodes_view (drop l.item-index l.items)) ≡ l.initial.out.items ++ canon_items (nodes_view l.items)) × CodesFitAll (nodes_view (drop l.item-index l.items))
+    (l.out.items ++ canon_items (nodes_view (drop l.item-index l.items)) ≡ l.initial.out.items
+    ++ canon_items (nodes_view l.items)) × CodesFitAll (nodes_view (drop l.item-index l.items))
 
 abbrev pub invariant-push_pairs-loop-key : goal.invariant-push_pairs-loop-key
 invariant-push_pairs-loop-key l =
-    (l.out.items ++ canon_pairs (pairs_view (drop l.key-index l.pairs)) ≡ l.initial.out.items ++ canon_pairs (pairs_view l.pairs)) × CodesFitPairs (pairs_view (drop l.key-index l.pairs))
+    (l.out.items ++ canon_pairs (pairs_view (drop l.key-index l.pairs)) ≡ l.initial.out.items
+    ++ canon_pairs (pairs_view l.pairs)) × CodesFitPairs (pairs_view (drop l.key-index l.pairs))
 
 abbrev pub invariant-push_fields-loop-id : goal.invariant-push_fields-loop-id
 invariant-push_fields-loop-id l =
-    (l.out.items ++ canon_fields l.before.id (fields_view (drop l.id-index l.fields)) ≡ l.initial.out.items ++ canon_fields (pos 0) (fields_view l.fields)) × CodesFitFields (fields_view (drop l.id-index l.fields))
+    (l.out.items ++ canon_fields l.before.id (fields_view (drop l.id-index l.fields)) ≡ l.initial.out.items
+    ++ canon_fields (pos 0) (fields_view l.fields))
+    × CodesFitFields (fields_view (drop l.id-index l.fields))
 
 abbrev pub decreases-push_value : goal.decreases-push_value
 decreases-push_value l = 3 * weight (view l.wire.now)

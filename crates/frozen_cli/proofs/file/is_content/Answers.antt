@@ -14,10 +14,15 @@ returns c =
     let s = stride c.args.layout.now.widths.items in
     let from : c.from.result ≡ s = c.from.ensures ∙ c.stride-bits.ensures.value in
     let tested : take (8 * length content - c.from.result) (drop c.from.result bs) ≡ drop s bs =
-    take_all (8 * length content - c.from.result) (drop c.from.result bs) (omega (arith, length-drop c.from.result bs, length_bits_of content)) ∙ ap (λ k. drop k bs) from in (
+    take_all (8 * length content - c.from.result) (drop c.from.result bs)
+    (omega (arith, length-drop c.from.result bs, length_bits_of content)) ∙ ap (λ k. drop k bs) from in (
       (λ t. record {
         len = omega (arith, c.if-content-bits.false, c.stride-bits.ensures.value);
-        padding = zeros_of_all (drop s bs) (subst (All (λ b. b ≡ false)) tested (c.all_zero.ensures.0 t)) ∙ ap (λ k. replicate k false) (length-drop s bs);
+        padding =
+            zeros_of_all (drop s bs) (subst (All (λ b. b ≡ false)) tested (c.all_zero.ensures.0 t))
+            ∙ ap (λ k. replicate k false) (length-drop s bs);
       }),
-      (λ is. c.all_zero.ensures.1 (all_of_zeros (length bs - s) (take (8 * length content - c.from.result) (drop c.from.result bs)) (tested ∙ is.padding))),
+      (λ is. c.all_zero.ensures.1
+          (all_of_zeros (length bs - s) (take (8 * length content - c.from.result) (drop c.from.result bs))
+          (tested ∙ is.padding))),
     )

@@ -9,5 +9,6 @@ abbrev pub invariant-loop-field : goal.invariant-loop-field
 invariant-loop-field l = record {
   widths : AllByRecursion (λ w. w ≤ 32) l.widths.items;
   len : length l.widths.items ≡ l.field;
-  exact : (ws : List ℕ) → IsLayout l.fields ws → l.leaves ≡ leaf_layouts 1 ws → l.widths.items ≡ take l.field ws;
+  exact : (ws : List ℕ) → IsLayout l.fields ws → l.leaves ≡ leaf_layouts 1 ws
+      → l.widths.items ≡ take l.field ws;
 }

@@ -6,14 +6,19 @@ use Rattle.frozen_cli.specs.File.{frozen}
 use Rattle.frozen_cli.proofs.FileLaws.{HasLeaves, has_leaves, schema_len, front_long}
 use Rattle.frozen_cli.proofs.file.leaves_in.Goals as goal
 
--- in a file the number that is read is the schema's length, and the layouts of the fields stand before its end
-found : (n len : ℕ) (bytes ws content : List ℕ) → n ≤ 60 → len ≡ little_number 4 (take (length bytes - 4) (drop 4 bytes)) → IsLayout n ws → bytes ≡ frozen ws content → HasLeaves n len bytes ws
+-- in a file the number that is read is the schema's length, and the layouts of the fields stand before its
+-- end
+found : (n len : ℕ) (bytes ws content : List ℕ) → n ≤ 60
+    → len ≡ little_number 4 (take (length bytes - 4) (drop 4 bytes)) → IsLayout n ws
+    → bytes ≡ frozen ws content → HasLeaves n len bytes ws
 found n len bytes ws content few read layout e =
     has_leaves n len bytes ws content layout few e
-    (read ∙ (ap (little_number 4) (take_rest bytes 4) ∙ schema_len bytes ws content (omega (arith, layout.fields)) e))
+    (read ∙ (ap (little_number 4) (take_rest bytes 4)
+    ∙ schema_len bytes ws content (omega (arith, layout.fields)) e))
 
 pub returns-then-bytes-lt8-clause-exact : goal.returns-then-bytes-lt8-clause-exact
-returns-then-bytes-lt8-clause-exact c ws content layout e = absurd (omega (arith, front_long c.args.bytes.now ws content e))
+returns-then-bytes-lt8-clause-exact c ws content layout e =
+    absurd (omega (arith, front_long c.args.bytes.now ws content e))
 
 pub returns-then-end-bytes-clause-exact : goal.returns-then-end-bytes-clause-exact
 returns-then-end-bytes-clause-exact c ws content layout e =

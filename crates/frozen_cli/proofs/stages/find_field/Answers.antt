@@ -14,5 +14,6 @@ returns-in-Some-clause-within c =
     let fits : FitsSigned w16 c.id.result = search rules in
     let d = definition_of c.args.def.now in
     let id = named_id d (λ f. bytes_eq f.name c.args.name.now) (field_of_ref c.in-Some.field) c.requires
-    (c.in-Some.ensures ∙ ap (λ t. find (λ f. bytes_eq f.name c.args.name.now) (fields_of t)) c.root.ensures.tree) in
+    (c.in-Some.ensures
+    ∙ ap (λ t. find (λ f. bytes_eq f.name c.args.name.now) (fields_of t)) c.root.ensures.tree) in
     subst (IsIdOf (field_count d)) (sym (to_z-of_z w16 c.id.result fits ∙ c.id.ensures)) id

@@ -13,8 +13,11 @@ returns-then-not-is_thin_field c =
     let never = λ (t : IsTrue false). let e : false ≡ true = t in absurd cc in (
       never,
       (λ (h : HasThinRoot (definition_of c.args.def.now)).
-          let all : AreThinFields 1 fs = subst (λ t. AreThinFields 1 (fields_of t)) (sym c.root-root.ensures.tree) h.fields in
-          let here = subst (AreThinFields (k + 1)) (rest_at fs k (field_of_ref c.field_at.result) c.field_at.ensures) (c.loop-place.invariant.left all) in
+          let all : AreThinFields 1 fs =
+          subst (λ t. AreThinFields 1 (fields_of t)) (sym c.root-root.ensures.tree) h.fields in
+          let here =
+          subst (AreThinFields (k + 1)) (rest_at fs k (field_of_ref c.field_at.result) c.field_at.ensures)
+          (c.loop-place.invariant.left all) in
           let is_thin : c.is_thin_field.result ≡ true = c.is_thin_field.ensures.1 here.0 in
           cc (c.if-not-is_thin_field.true)),
     )
@@ -26,7 +29,10 @@ loop-place-preserved c =
     let at = rest_at fs k (field_of_ref c.field_at.result) c.field_at.ensures in
     let next : suc (k + 1) ≡ k + 1 + 1 = omega arith in
     record {
-      all = λ h. c.loop-place.invariant.all (subst (AreThinFields (k + 1)) (sym at)
-          (c.is_thin_field.ensures.0 c.if-not-is_thin_field.false, subst (λ n. AreThinFields n (drop (k + 1) fs)) (sym next) h));
-      left = λ h. subst (λ n. AreThinFields n (drop (k + 1) fs)) next (subst (AreThinFields (k + 1)) at (c.loop-place.invariant.left h)).1;
+      all = λ h. c.loop-place.invariant.all (subst (AreThinFields (k + 1)) (sym at) (
+        c.is_thin_field.ensures.0 c.if-not-is_thin_field.false,
+        subst (λ n. AreThinFields n (drop (k + 1) fs)) (sym next) h,
+      ));
+      left = λ h. subst (λ n. AreThinFields n (drop (k + 1) fs)) next
+          (subst (AreThinFields (k + 1)) at (c.loop-place.invariant.left h)).1;
     }

@@ -15,7 +15,9 @@ loop-number-preserved c =
     let fits : FitsSigned w32 (get_or xs i (pos 0)) = search rules in
     record {
       widths = grind (arith, common_steps);
-      ranges = subst (AllByRecursion (FitsSigned w32)) (sym (take_more xs i (pos 0) c.loop-number-test.true)) (all_push (FitsSigned w32) (take i xs) (get_or xs i (pos 0)) c.loop-number.invariant.ranges fits);
+      ranges =
+          subst (AllByRecursion (FitsSigned w32)) (sym (take_more xs i (pos 0) c.loop-number-test.true))
+          (all_push (FitsSigned w32) (take i xs) (get_or xs i (pos 0)) c.loop-number.invariant.ranges fits);
     }
 
 pub returns : goal.returns
@@ -23,4 +25,8 @@ returns c =
     let xs = c.args.numbers.now in
     let whole : take c.loop-number.number-index xs ≡ xs = take_all _ xs c.loop-number-test.false in
     subst (λ ws. Least (length xs) ws xs) (sym (c.loop-number.invariant.widths ∙ ap (map need_signed) whole))
-    (needs_are_least (length xs) xs (record { fields = omega arith; ranges = subst (AllByRecursion (FitsSigned w32)) whole c.loop-number.invariant.ranges }))
+    (needs_are_least (length xs) xs
+    (record {
+      fields = omega arith;
+      ranges = subst (AllByRecursion (FitsSigned w32)) whole c.loop-number.invariant.ranges;
+    }))

@@ -4,16 +4,15 @@ use Rattle.std.proofs.Common.{◌≡◌, ℕ, suc, ◌+◌, Bool, true, false, �
 use Rattle.std.proofs.lemmas.List.{map-append}
 use Rattle.frozen_model.specs.Trees.{Flag, Integer, Leaf, ByteRange, ItemRange, Optional, Struct, NoField, Field, nodes, nodes_all}
 use Rattle.frozen_model.specs.Layouts.{Version, Version1, Version2}
-use Rattle.compact_wire.specs.Node.{Node, Pairs, pair, i16}
+use Rattle.frozen_model.specs.Values.{Values, And}
+use Rattle.typed_tree.specs.Spots.{pair}
 use Rattle.layout_tree.specs.declared.node.NodeSpec.{NodeSpec}
 use Rattle.layout_tree.specs.declared.node.Kind.{Kind}
 use Rattle.layout_tree.specs.declared.node.Kind.TheVariants as kinds
 use Rattle.layout_tree.specs.Listing.{Noted, AllNoted, layout_in, layouts_in, inline, inline_all, item_struct, nodes_of, nodes_of_all}
 use Rattle.layout_tree.specs.Given.{shown, noted_from, all_noted_from}
 use Rattle.layout_tree.specs.Reading.{whole_kind}
-use Rattle.layout_tree.specs.Segments.{head_node}
-use Rattle.layout_schema.specs.Schemas.{base_in}
-use Rattle.layout_schema.specs.Wired.{children, child_wire, base_field, layout_wire, layout_wires}
+use Rattle.layout_schema.specs.Schemas.{number, base_in, child_value, children_of, layout_of_node, layouts_of}
 
 abbrev plain_base : Version → NodeSpec → ℤ
 plain_base Version1 s = pos 0
@@ -31,27 +30,27 @@ plain v s = record {
   base = plain_base v s;
 }
 
-plain_children : (v : Version) (p n : ℕ) (xs : List NodeSpec) → children p n (map (plain v) xs) ≡ children p n (map shown xs)
+plain_children : (v : Version) (p n : ℕ) (xs : List NodeSpec) → children_of p n (map (plain v) xs) ≡ children_of p n (map shown xs)
 plain_children v p n [] = refl
 plain_children v p n (x ∷ xs) =
-    ap (λ r. if x.parent == p then pair (i16 x.field) (child_wire n x) r else r) (plain_children v p (suc n) xs)
+    ap (λ r. if x.parent == p then And (pair (number x.field) (child_value n x)) r else r) (plain_children v p (suc n) xs)
 
 twice : (b : Bool) (z : ℤ) → (if b then (if b then z else pos 0) else pos 0) ≡ (if b then z else pos 0)
 twice true z = refl
 twice false z = refl
 
-plain_layout : (v : Version) (x : NodeSpec) (cs : Pairs) → layout_wire v (plain v x) cs ≡ layout_wire v (shown x) cs
+plain_layout : (v : Version) (x : NodeSpec) (cs : Values) → layout_of_node v (plain v x) cs ≡ layout_of_node v (shown x) cs
 plain_layout Version1 x cs = refl
 plain_layout Version2 x cs = let e = twice (whole_kind x.kind) x.base in rw e refl
 
-plain_wires : (v : Version) (n : ℕ) (xs : List NodeSpec) → layout_wires v n (map (plain v) xs) ≡ layout_wires v n (map shown xs)
-plain_wires v n [] = refl
-plain_wires v n (x ∷ xs) =
-    let first : layout_wire v (plain v x) (children n (suc n) (map (plain v) xs)) ≡ layout_wire v (shown x) (children n (suc n) (map shown xs)) =
-    ap (layout_wire v (plain v x)) (plain_children v n (suc n) xs) ∙ plain_layout v x (children n (suc n) (map shown xs)) in
-    let later = plain_wires v (suc n) xs in
-    ap (λ y. pair (i16 (pos n)) y (layout_wires v (suc n) (map (plain v) xs))) first
-    ∙ ap (λ r. pair (i16 (pos n)) (layout_wire v (shown x) (children n (suc n) (map shown xs))) r) later
+plain_layouts : (v : Version) (n : ℕ) (xs : List NodeSpec) → layouts_of v n (map (plain v) xs) ≡ layouts_of v n (map shown xs)
+plain_layouts v n [] = refl
+plain_layouts v n (x ∷ xs) =
+    let first : layout_of_node v (plain v x) (children_of n (suc n) (map (plain v) xs)) ≡ layout_of_node v (shown x) (children_of n (suc n) (map shown xs)) =
+    ap (layout_of_node v (plain v x)) (plain_children v n (suc n) xs) ∙ plain_layout v x (children_of n (suc n) (map shown xs)) in
+    let later = plain_layouts v (suc n) xs in
+    ap (λ y. And (pair (number (pos n)) y) (layouts_of v (suc n) (map (plain v) xs))) first
+    ∙ ap (And (pair (number (pos n)) (layout_of_node v (shown x) (children_of n (suc n) (map shown xs))))) later
 
 mutual
   same_inline : (v : Version) (t : Noted) → inline (noted_from (layout_in v t)) ≡ inline t
@@ -112,8 +111,8 @@ mutual
       ∙ ap (λ n. map (plain v) (nodes_of m kinds.Struct i p id o) ++ map (plain v) (nodes_of_all ms (i + nodes m) p (o + n))) (sym (same_inline v l))
       ∙ sym (map-append (plain v) (nodes_of m kinds.Struct i p id o) (nodes_of_all ms (i + nodes m) p (o + inline m)))
 
--- the layouts of a schema by the widths that are noted
-pub same_wires : (v : Version) (t : Noted) (sk : Kind) (i p f o : ℕ)
-    → layout_wires v i (map shown (nodes_of t sk i p f o)) ≡ layout_wires v i (map shown (nodes_of (noted_from (layout_in v t)) sk i p f o))
-same_wires v t sk i p f o =
-    sym (plain_wires v i (nodes_of t sk i p f o)) ∙ ap (layout_wires v i) (same_plain v t sk i p f o) ∙ plain_wires v i (nodes_of (noted_from (layout_in v t)) sk i p f o)
+-- the layouts of a schema, whatever widths are noted
+pub same_layouts : (v : Version) (t : Noted) (sk : Kind) (i p f o : ℕ)
+    → layouts_of v i (map shown (nodes_of t sk i p f o)) ≡ layouts_of v i (map shown (nodes_of (noted_from (layout_in v t)) sk i p f o))
+same_layouts v t sk i p f o =
+    sym (plain_layouts v i (nodes_of t sk i p f o)) ∙ ap (layouts_of v i) (same_plain v t sk i p f o) ∙ plain_layouts v i (nodes_of (noted_from (layout_in v t)) sk i p f o)

@@ -1,56 +1,56 @@
 -- What is behind a node in a list that is shown, by the calls that read it.
-use Rattle.std.proofs.Common.{◌≡◌, ◌⊎◌, inl, inr, ℕ, zero, suc, ◌+◌, ◌-◌, ◌<◌, ◌≤◌, Bool, if◌then◌else◌, false, true, ◌==◌, List, [], ◌∷◌, ◌++◌, pos, arith, refl, ap, sym, ◌∙◌, subst, length, map, drop, slice_get, Option, Some, None, append_assoc, length-append}
+use Rattle.std.proofs.Common.{◌≡◌, ◌⊎◌, inl, inr, ℕ, zero, suc, ◌+◌, ◌-◌, ◌<◌, ◌≤◌, Bool, if◌then◌else◌, false, true, ◌==◌, List, [], ◌∷◌, ◌++◌, arith, refl, ap, sym, ◌∙◌, subst, length, map, drop, slice_get, Some, length-append}
 use Rattle.std.proofs.lemmas.List.{map-append, length-map, drop-drop}
 use Rattle.std.proofs.Math.Seq.{drop-append_seam, drop-append-add}
 use Rattle.std.proofs.lemmas.Bool.Decides.{nat_tests}
 use Rattle.frozen_model.specs.Trees.{Text, Binary, AList, ASet, AMap, Leaf, ByteRange, ItemRange, Optional, Struct, nodes, Part}
-use Rattle.compact_wire.specs.Node.{Pairs, no_pairs, pair, i16}
-use Rattle.compact_wire.specs.Canon.{pairs_count}
+use Rattle.frozen_model.specs.Values.{NoValue, And, count}
+use Rattle.typed_tree.specs.Spots.{pair}
 use Rattle.layout_tree.specs.declared.layouts.Layouts.{Layouts}
 use Rattle.layout_tree.specs.declared.node.NodeSpec.{NodeSpec}
 use Rattle.layout_tree.specs.declared.node.Kind.{Kind}
 use Rattle.layout_tree.specs.declared.node.Kind.TheVariants as kinds
 use Rattle.layout_tree.specs.Listing.{Noted, nodes_of, all_nodes, sub, version_of}
-use Rattle.layout_tree.specs.Given.{shown, shown_nodes}
+use Rattle.layout_tree.specs.Given.{shown}
 use Rattle.layout_tree.specs.Nodes.{noted_in, IsNode, IsNumber, at, listed}
 use Rattle.layout_tree.specs.Segments.{IsStructKind, head_node, rest_nodes}
 use Rattle.layout_tree.proofs.Settling.{split_nodes}
 use Rattle.layout_tree.proofs.Subs.{sub_is}
-use Rattle.layout_tree.proofs.Place.{Place, place, length_nodes}
+use Rattle.layout_tree.proofs.Place.{place, length_nodes}
 use Rattle.layout_tree.proofs.Numbers.{IsLone}
 use Rattle.layout_tree.proofs.Readings.{same_nodes}
-use Rattle.layout_schema.specs.Wired.{children, child_wire}
-use Rattle.layout_schema.proofs.Spots.{Childless, Spot, PartOf, spot_in}
+use Rattle.layout_schema.specs.Schemas.{number, child_value, children_of}
+use Rattle.layout_schema.proofs.Spots.{Childless, Spot, PartOf, spot_in, nodes_below}
 
 -- ---- lists
 
-shown_childless : (n : ℕ) (xs : List NodeSpec) → Childless n xs → Childless n (map shown xs)
+pub shown_childless : (n : ℕ) (xs : List NodeSpec) → Childless n xs → Childless n (map shown xs)
 shown_childless n [] h = tt
 shown_childless n (x ∷ xs) h = (h.0, shown_childless n xs h.1)
 
-other_test : (m n : ℕ) → (m ≡ n → ⊥) → (m == n) ≡ false
+pub other_test : (m n : ℕ) → (m ≡ n → ⊥) → (m == n) ≡ false
 other_test m n h = grind (arith, nat_tests)
 
-same_test : (m n : ℕ) → m ≡ n → (m == n) ≡ true
+pub same_test : (m n : ℕ) → m ≡ n → (m == n) ≡ true
 same_test m n h = grind (arith, nat_tests)
 
-children_past : (p n : ℕ) (xs rest : List NodeSpec) → Childless p xs → children p n (xs ++ rest) ≡ children p (n + length xs) rest
-children_past p n [] rest h = let e : n ≡ n + 0 = omega arith in ap (λ k. children p k rest) e
+pub children_past : (p n : ℕ) (xs rest : List NodeSpec) → Childless p xs → children_of p n (xs ++ rest) ≡ children_of p (n + length xs) rest
+children_past p n [] rest h = let e : n ≡ n + 0 = omega arith in ap (λ k. children_of p k rest) e
 children_past p n (x ∷ xs) rest h =
     let t = other_test x.parent p h.0 in
     let e : suc n + length xs ≡ n + suc (length xs) = omega arith in
-    rw t (children_past p (suc n) xs rest h.1 ∙ ap (λ k. children p k rest) e)
+    rw t (children_past p (suc n) xs rest h.1 ∙ ap (λ k. children_of p k rest) e)
 
-pub children_none : (p n : ℕ) (xs : List NodeSpec) → Childless p xs → children p n xs ≡ no_pairs
+pub children_none : (p n : ℕ) (xs : List NodeSpec) → Childless p xs → children_of p n xs ≡ NoValue
 children_none p n [] h = refl
 children_none p n (x ∷ xs) h = let t = other_test x.parent p h.0 in rw t (children_none p (suc n) xs h.1)
 
-pub few_children : (p n : ℕ) (xs : List NodeSpec) → pairs_count (children p n xs) ≤ length xs
+pub few_children : (p n : ℕ) (xs : List NodeSpec) → count (children_of p n xs) ≤ length xs
 few_children p n [] = omega arith
 few_children p n (x ∷ xs) = go (x.parent == p) (few_children p (suc n) xs)
   where
-    go : (b : Bool) → pairs_count (children p (suc n) xs) ≤ length xs
-        → pairs_count (if b then pair (i16 x.field) (child_wire n x) (children p (suc n) xs) else children p (suc n) xs) ≤ suc (length xs)
+    go : (b : Bool) → count (children_of p (suc n) xs) ≤ length xs
+        → count (if b then And (pair (number x.field) (child_value n x)) (children_of p (suc n) xs) else children_of p (suc n) xs) ≤ suc (length xs)
     go true h = omega (arith, h)
     go false h = omega (arith, h)
 
@@ -153,11 +153,11 @@ past_spot : (l : Layouts) (n past : ℕ) (s : Spot (λ (x : Noted). Part (noted_
     → (IsNode l n → past ≡ n + nodes (at l n)) → ((IsNode l n → ⊥) → past ≡ n + 1) → past ≡ n + suc (length s.inside)
 past_spot l n past s part other = go s.part
   where
-    go : PartOf (λ (x : Noted). Part (noted_in l) 0 x n) (suc (length s.inside)) ⊎ (IsLone s.node.kind × (s.inside ≡ [])) → past ≡ n + suc (length s.inside)
+    go : PartOf (λ (x : Noted). Part (noted_in l) 0 x n) n s.inside ⊎ (IsLone s.node.kind × (s.inside ≡ [])) → past ≡ n + suc (length s.inside)
     go (inl h) =
         let e = sub_is h.is in
         part (subst (λ (x : Noted). Part (noted_in l) 0 x n) (sym e) h.is)
-        ∙ ap (λ m. n + m) (same_nodes (version_of l.version) (sub (noted_in l) n) ∙ ap nodes e ∙ h.long)
+        ∙ ap (λ m. n + m) (same_nodes (version_of l.version) (sub (noted_in l) n) ∙ ap nodes e ∙ nodes_below h.here n ∙ ap (λ r. suc (length r)) (sym h.rest))
     go (inr h) =
         let one : n + 1 ≡ n + suc (length s.inside) = omega (arith, ap length h.1) in
         elim (same_or past (n + 1)) [
@@ -180,7 +180,7 @@ childless_drop n (suc k) [] h = tt
 childless_drop n (suc k) (x ∷ xs) h = childless_drop n k xs h.1
 
 -- no children are behind the nodes below a node
-pub no_more : (xs : List NodeSpec) (n past k : ℕ) → Behind xs n past → past ≤ k → children n k (drop k xs) ≡ no_pairs
+pub no_more : (xs : List NodeSpec) (n past k : ℕ) → Behind xs n past → past ≤ k → children_of n k (drop k xs) ≡ NoValue
 no_more xs n past k b le =
     let e : k ≡ past + (k - past) = omega arith in
     children_none n k (drop k xs)
@@ -190,15 +190,15 @@ module _ (xs : List NodeSpec) (n c past : ℕ) (b : Behind xs c past) (lt : n < 
   first : drop c xs ≡ x ∷ (b.inside ++ b.post)
   first = let e = drop_get xs c x is in let h = b.here in let same : x ≡ b.node = cc in b.here ∙ ap (λ y. y ∷ (b.inside ++ b.post)) (sym same)
 
-  rest : children n (suc c) (b.inside ++ b.post) ≡ children n past (drop past xs)
+  rest : children_of n (suc c) (b.inside ++ b.post) ≡ children_of n past (drop past xs)
   rest =
-      children_past n (suc c) b.inside b.post (b.below n lt) ∙ ap (λ k. children n k b.post) (sym b.ends) ∙ ap (children n past) (sym b.later)
+      children_past n (suc c) b.inside b.post (b.below n lt) ∙ ap (λ k. children_of n k b.post) (sym b.ends) ∙ ap (children_of n past) (sym b.later)
 
-  pub mine : x.parent ≡ n → children n c (drop c xs) ≡ pair (i16 x.field) (child_wire c x) (children n past (drop past xs))
-  mine e = let t = same_test x.parent n e in ap (children n c) first ∙ rw t (ap (pair (i16 x.field) (child_wire c x)) rest)
+  pub mine : x.parent ≡ n → children_of n c (drop c xs) ≡ And (pair (number x.field) (child_value c x)) (children_of n past (drop past xs))
+  mine e = let t = same_test x.parent n e in ap (children_of n c) first ∙ rw t (ap (And (pair (number x.field) (child_value c x))) rest)
 
-  pub theirs : (x.parent ≡ n → ⊥) → children n c (drop c xs) ≡ children n past (drop past xs)
-  theirs e = let t = other_test x.parent n e in ap (children n c) first ∙ rw t rest
+  pub theirs : (x.parent ≡ n → ⊥) → children_of n c (drop c xs) ≡ children_of n past (drop past xs)
+  theirs e = let t = other_test x.parent n e in ap (children_of n c) first ∙ rw t rest
 
 pub listed_length : (l : Layouts) → length (listed l) ≡ nodes (noted_in l)
 listed_length l = length-map (all_nodes (noted_in l)) shown ∙ length_nodes (noted_in l) kinds.Struct 0 0 0 0

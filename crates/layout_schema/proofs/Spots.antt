@@ -5,11 +5,15 @@ use Rattle.frozen_model.specs.Trees.{Leaf, ByteRange, ItemRange, Optional, Struc
 use Rattle.layout_tree.specs.declared.node.NodeSpec.{NodeSpec}
 use Rattle.layout_tree.specs.declared.node.Kind.{Kind}
 use Rattle.layout_tree.specs.declared.node.Kind.TheVariants as kinds
-use Rattle.layout_tree.specs.Listing.{Noted, AllNoted, inline, item_struct, kind_of_holder, kind_of_bytes, spec, size, nodes_of, nodes_of_all, all_nodes}
+use Rattle.layout_tree.specs.Listing.{Noted, AllNoted, inline, item_struct, spec, size, nodes_of, nodes_of_all, all_nodes}
 use Rattle.layout_tree.specs.Segments.{head_node, rest_nodes}
 use Rattle.layout_tree.proofs.Settling.{split_nodes}
 use Rattle.layout_tree.proofs.Place.{length_nodes}
 use Rattle.layout_tree.proofs.Numbers.{IsLone}
+
+-- a node and those below it
+pub nodes_below : (t : Noted) (i : ℕ) → nodes t ≡ suc (length (rest_nodes t i))
+nodes_below t i = sym (length_nodes t kinds.Struct i 0 0 0) ∙ ap length (split_nodes t kinds.Struct i 0 0 0)
 
 -- none of these nodes has the parent n
 abbrev pub Childless : ℕ → List NodeSpec → Type 0
@@ -25,7 +29,7 @@ above i n lt e = omega arith
 
 -- the nodes of a tree whose numbers are above n, and whose parent is another
 mutual
-  others : (t : Noted) (sk : Kind) (i p f o n : ℕ) → n < i → (p ≡ n → ⊥) → Childless n (nodes_of t sk i p f o)
+  pub others : (t : Noted) (sk : Kind) (i p f o n : ℕ) → n < i → (p ≡ n → ⊥) → Childless n (nodes_of t sk i p f o)
   others (Leaf k c) sk i p f o n lt h = (h, tt)
   others (ByteRange t d c) sk i p f o n lt h = (h, (above i n lt, (above i n lt, tt)))
   others (ItemRange g d c l) sk i p f o n lt h =
@@ -34,14 +38,14 @@ mutual
       (h, (above i n lt, others l kinds.Struct (suc (suc i)) i 2 w.bits n (omega arith) (above i n lt)))
   others (Struct ls) sk i p f o n lt h = (h, others_all ls (suc i) i 0 n (omega arith) (above i n lt))
 
-  others_all : (ls : AllNoted) (i p o n : ℕ) → n < i → (p ≡ n → ⊥) → Childless n (nodes_of_all ls i p o)
+  pub others_all : (ls : AllNoted) (i p o n : ℕ) → n < i → (p ≡ n → ⊥) → Childless n (nodes_of_all ls i p o)
   others_all NoField i p o n lt h = tt
   others_all (Field id l ls) i p o n lt h =
       childless_append n (nodes_of l kinds.Struct i p id o) (nodes_of_all ls (i + nodes l) p (o + inline l))
       (others l kinds.Struct i p id o n lt h)
       (others_all ls (i + nodes l) p (o + inline l) n (omega arith) h)
 
-below_others : (t : Noted) (i n : ℕ) → n < i → Childless n (rest_nodes t i)
+pub below_others : (t : Noted) (i n : ℕ) → n < i → Childless n (rest_nodes t i)
 below_others (Leaf k c) i n lt = tt
 below_others (ByteRange t d c) i n lt = (above i n lt, (above i n lt, tt))
 below_others (ItemRange g d c l) i n lt =
@@ -51,11 +55,11 @@ below_others (Struct ls) i n lt = others_all ls (suc i) i 0 n (omega arith) (abo
 
 -- ---- a node of a tree
 
--- a part of that many nodes, where R says which parts stand at the node
-pub record PartOf (R : Noted → Type 0) (count : ℕ) : Type 0 where
+-- a part with these nodes below its own, where R says which parts stand at the node n
+pub record PartOf (R : Noted → Type 0) (n : ℕ) (inside : List NodeSpec) : Type 0 where
   pub here : Noted
   pub is : R here
-  pub long : nodes here ≡ count
+  pub rest : inside ≡ rest_nodes here n
 
 -- the node n of a list whose first has the number i: the nodes below it, and those behind
 pub record Spot (R : Noted → Type 0) (ns : List NodeSpec) (i n : ℕ) : Type 0 where
@@ -67,7 +71,7 @@ pub record Spot (R : Noted → Type 0) (ns : List NodeSpec) (i n : ℕ) : Type 0
   pub long : i + length pre ≡ n
   pub below : (m : ℕ) → m < n → Childless m inside
   pub apart : Childless n post
-  pub part : PartOf R (suc (length inside)) ⊎ (IsLone node.kind × (inside ≡ []))
+  pub part : PartOf R n inside ⊎ (IsLone node.kind × (inside ≡ []))
 
 -- with nodes in front
 ahead : {R S : Noted → Type 0} {ns : List NodeSpec} {i j n : ℕ} (xs : List NodeSpec) → i + length xs ≡ j
@@ -84,8 +88,8 @@ ahead {R} {S} {ns} {i} {j} {n} xs e f p = record {
   part = moved p.part;
 }
   where
-    moved : PartOf R (suc (length p.inside)) ⊎ (IsLone p.node.kind × (p.inside ≡ [])) → PartOf S (suc (length p.inside)) ⊎ (IsLone p.node.kind × (p.inside ≡ []))
-    moved (inl h) = inl (record { here = h.here; is = f h.here h.is; long = h.long })
+    moved : PartOf R n p.inside ⊎ (IsLone p.node.kind × (p.inside ≡ [])) → PartOf S n p.inside ⊎ (IsLone p.node.kind × (p.inside ≡ []))
+    moved (inl h) = inl (record { here = h.here; is = f h.here h.is; rest = h.rest })
     moved (inr h) = inr h
 
 -- with nodes behind
@@ -104,8 +108,8 @@ wider {R} {S} {ns} {i} {n} more h f p = record {
   part = moved p.part;
 }
   where
-    moved : PartOf R (suc (length p.inside)) ⊎ (IsLone p.node.kind × (p.inside ≡ [])) → PartOf S (suc (length p.inside)) ⊎ (IsLone p.node.kind × (p.inside ≡ []))
-    moved (inl h) = inl (record { here = h.here; is = f h.here h.is; long = h.long })
+    moved : PartOf R n p.inside ⊎ (IsLone p.node.kind × (p.inside ≡ [])) → PartOf S n p.inside ⊎ (IsLone p.node.kind × (p.inside ≡ []))
+    moved (inl h) = inl (record { here = h.here; is = f h.here h.is; rest = h.rest })
     moved (inr h) = inr h
 
 -- the first node of a tree
@@ -121,11 +125,7 @@ first_spot t sk i p f o n e =
       long = omega (arith, e);
       below = λ m lt. below_others t i m (omega arith);
       apart = tt;
-      part = inl (record {
-        here = t;
-        is = subst (λ m. Part t i t m) (sym e) itself;
-        long = omega (arith, length_nodes t sk i p f o, ap length split);
-      });
+      part = inl (record { here = t; is = subst (λ m. Part t i t m) (sym e) itself; rest = ap (rest_nodes t) (sym e) });
     }
 
 -- a distance, a count or an isset

@@ -1,12 +1,12 @@
 -- Worked rows, by computing: struct P {1: i32 x; 2: i32 y} with 4 and 1 bits in version 1, and in version 2 relaxed, with no bits
 -- above the bases 5 and -1.
-use Rattle.std.proofs.Common.{◌≡◌, ℕ, List, [], ◌∷◌, Bool, true, false, Ok, Err, refl, rules}
+use Rattle.std.proofs.Common.{◌≡◌, [], ◌∷◌, true, false, Ok, Err, refl, rules}
 use Rattle.std.proofs.lemmas.Str.{is_utf8-from_IsUtf8, IsUtf8-from_ascii}
 use Rattle.std.specs.Str.{is_utf8}
 use Rattle.std.specs.Prelude.{pos, negsuc, codes}
 use Rattle.frozen_model.specs.Trees.{Integer, I32, Leaf, Struct, NoField, Field}
 use Rattle.frozen_model.specs.Layouts.{Version1, Version2, TwosComplement, FromBase, Described, described}
-use Rattle.compact_wire.specs.Node.{Node, flag, i16, i32, i64, binary, map, structure, no_pairs, pair, no_fields, field}
+use Rattle.compact_wire.specs.Node.{flag, i16, i32, i64, binary, map, structure, no_pairs, pair, no_fields, field}
 use Rattle.compact_wire.specs.Number.{shortest, digits_128}
 use Rattle.compact_wire.specs.Canon.{canon}
 use Rattle.compact_codec.specs.Wire.{wire}

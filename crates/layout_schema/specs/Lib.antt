@@ -1,5 +1,5 @@
 pub mod Schemas
-pub mod Wired
 pub mod Pieces
 pub mod Shapes
 pub mod Answers
+pub mod Laws

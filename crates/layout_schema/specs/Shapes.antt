@@ -3,7 +3,7 @@ use Rattle.std.specs.Prelude.{ℕ, zero, suc, ◌+◌, ℤ, pos, negsuc, neg_ℤ
 use Rattle.std.specs.Prelude.{if◌then◌else◌, List, [], ◌∷◌, ◌++◌, length, find, Option, Some, None, Result, Ok, Err}
 use Rattle.std.specs.Str.{bytes_eq}
 use Rattle.std.specs.Ordering.{int_eq}
-use Rattle.frozen_model.specs.Trees.{Flag, Integer, I8, I16, I32, I64, LeafKind, greatest}
+use Rattle.frozen_model.specs.Trees.{Flag, Integer, I8, I16, I32, I64, greatest}
 use Rattle.frozen_model.specs.Values.{Value, Values, NoValue, And, nth}
 use Rattle.frozen_model.specs.Layouts.{in_range}
 use Rattle.typed_tree.specs.Parts.{items_of, fields_of}

@@ -2,10 +2,12 @@
 #![tactic(auto)]
 
 mod fault;
+mod laws;
 mod pieces;
 mod write;
 
 pub use fault::SchemaFault;
+pub use laws::{schemas_are_exact, written_schema_is_schema};
 pub use write::write_schema;
 
 #[cfg(test)]

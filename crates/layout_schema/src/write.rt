@@ -1,12 +1,12 @@
 //! Writing the schema of a layout.
 
 ghost use Rattle.std.specs.Prelude.{◌≡◌, suc, drop, IfOk, OnOk, ◌++◌};
-ghost use Rattle.compact_wire.specs.Canon.{canon, pairs_count, canon_pairs};
+ghost use Rattle.frozen_model.specs.Values.{count};
+ghost use Rattle.compact_wire.specs.Canon.{canon, canon_pairs};
 ghost use Rattle.layout_tree.specs.Nodes.{layout_of, listed, IsSettled, IsNumber};
 ghost use Rattle.compact_codec.specs.Wire.{wire};
-ghost use Rattle.layout_schema.specs.Schemas.{schema_type, schema_of};
-ghost use Rattle.layout_schema.specs.Wired.{children, layout_wires};
-ghost use Rattle.layout_schema.specs.Pieces.{node_bytes};
+ghost use Rattle.layout_schema.specs.Schemas.{schema_type, schema_of, children_of};
+ghost use Rattle.layout_schema.specs.Pieces.{node_bytes, child_pairs};
 
 use crate::pieces::{
     push_base, push_child, push_flag_field, push_i16_field, push_i32_field, push_map_head,
@@ -18,7 +18,7 @@ use std::alloc::{AllocError, Global};
 /// How many children a node has.
 fn count_children(layouts: &Layouts, node: u32) -> u32
     requires { IsNumber layouts.now node }
-    ensures { result ≡ pairs_count (children node (suc node) (drop (suc node) (listed layouts.now))) }
+    ensures { result ≡ count (children_of node (suc node) (drop (suc node) (listed layouts.now))) }
 {
     let end = layouts.past(node);
     let mut count = 0;
@@ -36,7 +36,7 @@ fn count_children(layouts: &Layouts, node: u32) -> u32
 fn push_children(out: &mut Vec<u8>, layouts: &Layouts, node: u32) -> Result<(), AllocError>
     requires { IsNumber layouts.now node }
     ensures { OnOk result (out.new.items ≡ out.old.items
-        ++ canon_pairs (children node (suc node) (drop (suc node) (listed layouts.now)))) }
+        ++ canon_pairs (child_pairs (children_of node (suc node) (drop (suc node) (listed layouts.now))))) }
 {
     let end = layouts.past(node);
     let mut child = node + 1;

@@ -1,4 +1,4 @@
-use Rattle.std.proofs.Common.{rules, arith, refl, pos, false, ◌<◌, ◌≤◌}
+use Rattle.std.proofs.Common.{rules, arith, refl, false}
 use Rattle.frozen_model.specs.Rows.{two_fields}
 use Rattle.frozen_model.specs.Layouts.{Version1, TwosComplement, signed_coded, described}
 use Rattle.layout_schema.proofs.tests.schema_of_two_fields.Goals as goal

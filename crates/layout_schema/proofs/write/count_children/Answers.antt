@@ -1,10 +1,9 @@
-use Rattle.std.proofs.Common.{suc, ◌+◌, ◌<◌, ◌≤◌, ◌≡◌, arith, ap, sym, ◌∙◌, length, drop, length-drop}
-use Rattle.compact_wire.specs.Canon.{pairs_count}
+use Rattle.std.proofs.Common.{suc, ◌<◌, arith, ap, drop, length-drop}
+use Rattle.frozen_model.specs.Values.{count}
 use Rattle.frozen_model.specs.Trees.{nodes}
-use Rattle.layout_tree.specs.Nodes.{noted_in, listed, IsNumber}
+use Rattle.layout_tree.specs.Nodes.{noted_in, listed}
 use Rattle.layout_tree.proofs.Readings.{few_nodes}
-use Rattle.layout_schema.specs.Wired.{children}
-use Rattle.layout_schema.proofs.Places.{Behind, behind, no_more, mine, theirs, few_children, listed_length}
+use Rattle.layout_schema.proofs.Places.{behind, no_more, mine, theirs, few_children, listed_length}
 use Rattle.layout_schema.proofs.write.count_children.Goals as goal
 use Rattle.layout_schema.proofs.write.count_children.Goals.{then-node, else-node}
 
@@ -53,8 +52,8 @@ loop-child-preserved c =
     record {
       behind = omega (arith, b.ends, i.behind);
       counted = elim c.if-node.branch [
-        | then-node w ↦ omega (arith, w.count-is, i.counted, ap pairs_count (mine xs n k c.past-child.result b i.behind c.node.result c.node.ensures w.if-node.true))
-        | else-node w ↦ omega (arith, w.count-is, i.counted, ap pairs_count (theirs xs n k c.past-child.result b i.behind c.node.result c.node.ensures w.if-node.false))
+        | then-node w ↦ omega (arith, w.count-is, i.counted, ap count (mine xs n k c.past-child.result b i.behind c.node.result c.node.ensures w.if-node.true))
+        | else-node w ↦ omega (arith, w.count-is, i.counted, ap count (theirs xs n k c.past-child.result b i.behind c.node.result c.node.ensures w.if-node.false))
       ];
     }
 
@@ -64,4 +63,4 @@ returns c =
     let n = c.args.node in
     let k = c.loop-child.child in
     let e = c.past-end.ensures in
-    omega (arith, c.loop-child.invariant.counted, ap pairs_count (no_more (listed l) n c.past-end.result k (behind l n c.past-end.result c.requires e.part e.other) c.loop-child-test.false))
+    omega (arith, c.loop-child.invariant.counted, ap count (no_more (listed l) n c.past-end.result k (behind l n c.past-end.result c.requires e.part e.other) c.loop-child-test.false))

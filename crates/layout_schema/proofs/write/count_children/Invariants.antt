@@ -1,15 +1,15 @@
 use Rattle.std.proofs.Common.{◌-◌, ◌≡◌, suc, drop, ◌+◌, ◌<◌}
-use Rattle.compact_wire.specs.Canon.{pairs_count}
+use Rattle.frozen_model.specs.Values.{count}
 use Rattle.layout_tree.specs.Nodes.{listed}
-use Rattle.layout_schema.specs.Wired.{children}
+use Rattle.layout_schema.specs.Schemas.{children_of}
 use Rattle.layout_schema.proofs.write.count_children.Given as goal
 
 -- the children that are counted and those that are left
 abbrev pub invariant-loop-child : goal.invariant-loop-child
 invariant-loop-child l = record {
   behind : l.node < l.child;
-  counted : l.count + pairs_count (children l.node l.child (drop l.child (listed l.layouts)))
-      ≡ pairs_count (children l.node (suc l.node) (drop (suc l.node) (listed l.layouts)));
+  counted : l.count + count (children_of l.node l.child (drop l.child (listed l.layouts)))
+      ≡ count (children_of l.node (suc l.node) (drop (suc l.node) (listed l.layouts)));
 }
 
 abbrev pub decreases-loop-child : goal.decreases-loop-child

@@ -1,11 +1,11 @@
-use Rattle.std.proofs.Common.{suc, ◌+◌, ◌<◌, ◌≤◌, ◌≡◌, ◌++◌, arith, ap, sym, ◌∙◌, drop, append_assoc}
+use Rattle.std.proofs.Common.{◌<◌, ◌++◌, arith, ap, sym, ◌∙◌, drop, append_assoc}
 use Rattle.std.proofs.lemmas.List.{append-nil}
 use Rattle.compact_wire.specs.Canon.{canon_pairs}
 use Rattle.frozen_model.specs.Trees.{nodes}
 use Rattle.layout_tree.specs.Nodes.{noted_in, listed}
 use Rattle.layout_tree.proofs.Readings.{few_nodes}
-use Rattle.layout_schema.specs.Wired.{children}
-use Rattle.layout_schema.specs.Pieces.{child_bytes}
+use Rattle.layout_schema.specs.Schemas.{children_of}
+use Rattle.layout_schema.specs.Pieces.{child_bytes, child_pairs}
 use Rattle.layout_schema.proofs.Places.{behind, no_more, mine, theirs, listed_length}
 use Rattle.layout_schema.proofs.Spelled.{child_spelled}
 use Rattle.layout_schema.proofs.write.push_children.Goals as goal
@@ -49,7 +49,7 @@ loop-child-preserved c =
     let b = behind l k past lt f.part f.other in
     let i = c.loop-child.invariant in
     let out = c.loop-child.out.items in
-    let left = canon_pairs (children n past (drop past xs)) in
+    let left = canon_pairs (child_pairs (children_of n past (drop past xs))) in
     record {
       behind = omega (arith, b.ends, i.behind);
       written = elim c.if-spec-node.branch [
@@ -57,11 +57,11 @@ loop-child-preserved c =
             ap (λ r. r ++ left) (ap (λ v. v.items) w.out-is ∙ w.in_ok-push_child.ensures)
             ∙ append_assoc out (child_bytes k x) left
             ∙ ap (λ r. out ++ r) (sym (child_spelled k x left))
-            ∙ ap (λ r. out ++ canon_pairs r) (sym (mine xs n k past b i.behind x c.node-spec.ensures w.if-spec-node.true))
+            ∙ ap (λ r. out ++ canon_pairs (child_pairs r)) (sym (mine xs n k past b i.behind x c.node-spec.ensures w.if-spec-node.true))
             ∙ i.written
         | else-spec-node w ↦
             ap (λ v. v.items ++ left) w.out-is
-            ∙ ap (λ r. out ++ canon_pairs r) (sym (theirs xs n k past b i.behind x c.node-spec.ensures w.if-spec-node.false))
+            ∙ ap (λ r. out ++ canon_pairs (child_pairs r)) (sym (theirs xs n k past b i.behind x c.node-spec.ensures w.if-spec-node.false))
             ∙ i.written
       ];
     }
@@ -74,5 +74,5 @@ returns c =
     let e = c.past-end.ensures in
     let out = c.loop-child.out.items in
     sym (append-nil out)
-    ∙ ap (λ r. out ++ canon_pairs r) (sym (no_more (listed l) n c.past-end.result k (behind l n c.past-end.result c.requires e.part e.other) c.loop-child-test.false))
+    ∙ ap (λ r. out ++ canon_pairs (child_pairs r)) (sym (no_more (listed l) n c.past-end.result k (behind l n c.past-end.result c.requires e.part e.other) c.loop-child-test.false))
     ∙ c.loop-child.invariant.written

@@ -1,0 +1,10 @@
+mod Runs
+mod Found
+mod Complete
+mod Sound
+mod Utf8
+mod Begins
+mod PieceLaws
+mod TextUtf8
+mod Parsing
+mod WorkedRows

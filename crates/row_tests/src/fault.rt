@@ -1,0 +1,33 @@
+//! Why a row has no content.
+
+use idl_parse::DefFault;
+use std::alloc::AllocError;
+use typed_reading::ValueFault;
+
+/// Why a row has no content.
+#[derive(Debug, Drop)]
+pub(crate) enum RowFault {
+    /// The text means no definition.
+    Definition(DefFault),
+    /// The bytes spell no value.
+    Value(ValueFault),
+    NoMemory,
+}
+
+impl From<AllocError> for RowFault {
+    fn from(_e: AllocError) -> RowFault {
+        RowFault::NoMemory
+    }
+}
+
+impl From<DefFault> for RowFault {
+    fn from(fault: DefFault) -> RowFault {
+        RowFault::Definition(fault)
+    }
+}
+
+impl From<ValueFault> for RowFault {
+    fn from(fault: ValueFault) -> RowFault {
+        RowFault::Value(fault)
+    }
+}

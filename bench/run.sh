@@ -46,3 +46,12 @@ for turn in 1 2; do
     taskset -c "$last" "$program" time || exit 1
     taskset -c "$last" "$work/pack_twin" time || exit 1
 done
+
+prepare codec_bench codec_twin
+for turn in 1 2; do
+    for what in time items; do
+        for one in "$program" "$work/codec_twin"; do
+            taskset -c "$last" /usr/bin/time -f "    %M KB at the peak" "$one" $what || exit 1
+        done
+    done
+done

@@ -24,7 +24,7 @@ use typed_tree::{Builder, Room, Tree};
 
 /// The tree of a struct that the bytes spell without faults, in a pool with this room; where it is less
 /// than the tree takes, the pool grows.
-fn build(alloc: Global, ty: TypeRef<'_>, room: Room, bytes: &[u8]) -> Result<Tree, AllocError>
+pub fn build(alloc: Global, ty: TypeRef<'_>, room: Room, bytes: &[u8]) -> Result<Tree, AllocError>
     requires accepted { IsAccepted Any (type_of_ref ty) }
     requires value { (w : Node) × IsValue (type_of_ref ty) bytes.now w }
     ensures { IfOk result (λ tree.

@@ -8,7 +8,7 @@ mod fields;
 mod laws;
 mod leaves;
 
-pub use decoding::decode;
+pub use decoding::{build, decode};
 pub use encoding::encode;
 pub use laws::{encoding_decodes, encoding_is_typed};
 

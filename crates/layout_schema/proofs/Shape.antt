@@ -1,26 +1,25 @@
 -- A value of the type of schemas says a layout exactly where it is the schema of this layout.
-use Rattle.std.proofs.Common.{◌≡◌, ℕ, zero, suc, ◌+◌, ◌<◌, ◌≤◌, ℤ, pos, Bool, true, false, if◌then◌else◌, List, [], ◌∷◌, Option, Some, None, Result, Ok, Err, arith, refl, ap, sym, ◌∙◌, subst, map, length}
+use Rattle.std.proofs.Common.{◌≡◌, ℕ, suc, ◌+◌, ◌<◌, ◌≤◌, ℤ, pos, Bool, true, false, if◌then◌else◌, List, [], ◌∷◌, Option, Some, None, Result, Ok, Err, arith, refl, ap, sym, ◌∙◌, subst, map, length}
 use Rattle.std.specs.Prelude.{unsigned_abs}
 use Rattle.std.specs.Ordering.{int_eq}
 use Rattle.std.proofs.lemmas.List.{length-map}
-use Rattle.frozen_model.specs.Trees.{LeafKind, Flag, Whole, Integer, I8, I16, I32, I64, Text, Binary, AList, ASet, AMap, Leaf, ByteRange, ItemRange, Optional, Struct, NoField, Field, nodes, nodes_all, levels, IsStruct}
+use Rattle.frozen_model.specs.Trees.{Flag, Integer, I8, I16, I32, I64, Text, Binary, AList, ASet, AMap, Leaf, ByteRange, ItemRange, Optional, Struct, nodes, levels, IsStruct}
 use Rattle.frozen_model.specs.Values.{Value, Values, NoValue, And, Atom, Truth, Number, One, Items, Record, IsOf, Of, one, items, record_of, OfEach, part as part_of, no_part, Rises}
-use Rattle.frozen_model.specs.Layouts.{Version, Version1, Version2, Coded, width, IsCoded, flag_coded, signed_coded, based_coded, Layout, Layouts, OfVersion, AllOfVersion, IsLayout}
+use Rattle.frozen_model.specs.Layouts.{Version, Layout, OfVersion, IsLayout}
 use Rattle.layout_tree.specs.declared.node.NodeSpec.{NodeSpec}
 use Rattle.layout_tree.specs.declared.node.Kind.{Kind}
 use Rattle.layout_tree.specs.declared.node.Kind.TheVariants as kinds
-use Rattle.layout_tree.specs.Listing.{coded, layout_in, layouts_in, Entry, leaf_of, built, kids, past_kids, entries, first_tree, tree_of, all_nodes, nodes_of, version_number}
-use Rattle.layout_tree.specs.Given.{shown_wide, shown, shown_nodes, noted_from, all_noted_from}
-use Rattle.layout_tree.specs.Reading.{base_of}
+use Rattle.layout_tree.specs.Listing.{coded, layout_in, Entry, leaf_of, built, kids, past_kids, entries, first_tree, tree_of, all_nodes, version_number}
+use Rattle.layout_tree.specs.Given.{shown_wide, shown, shown_nodes, noted_from}
 use Rattle.layout_tree.proofs.Decode.{tree_again}
 use Rattle.layout_tree.proofs.Place.{length_nodes}
-use Rattle.compact_codec.specs.Wire.{flag_in, number_in}
+use Rattle.layout_tree.proofs.Taken.{layout_from, nodes_from}
+use Rattle.compact_codec.specs.Wire.{flag_in}
 use Rattle.layout_schema.specs.Schemas.{number, layouts_of, schema_with}
-use Rattle.layout_schema.specs.Shapes.{relaxes_in, version_in, layouts_in as rows_in, root_in, Place, AtRoot, may_stand, Walked, walk_part, unwalked, no_other, all_walked, at_root, shape_in}
-use Rattle.layout_schema.proofs.Entries.{int_is, Has, has_own}
-use Rattle.layout_schema.proofs.Stands.{struct_at, kind_here, Stands, tree_walked, at_node}
+use Rattle.layout_schema.specs.Shapes.{relaxes_in, version_in, layouts_in as rows_in, root_in, AtRoot, may_stand, Walked, walk_part, unwalked, no_other, all_walked, at_root, shape_in}
+use Rattle.layout_schema.proofs.Entries.{int_is, has_own}
+use Rattle.layout_schema.proofs.Stands.{kind_here, Stands, tree_walked}
 use Rattle.layout_schema.proofs.Walks.{walks}
-use Rattle.layout_schema.proofs.Accepted.{Treed}
 use Rattle.layout_schema.proofs.Sound.{sound}
 use Rattle.layout_schema.proofs.OwnSchema.{keyed, layout_kinds, schema_kinds}
 use Rattle.layout_schema.proofs.Rows.{whole_atom, all_proper, rows_between, layouts_between, layouts_walked, same_rows, agree_in}
@@ -55,38 +54,9 @@ tree_shown : (ns : List NodeSpec) → tree_of (map shown ns) ≡ tree_of ns
 unfolding tree_of
 tree_shown ns = ap first_tree (entries_shown 0 ns)
 
-coded_again : (v : Version) (k : LeafKind) (c : Coded) → IsCoded v k c → coded v k (base_of c) (width c) ≡ c
-coded_again v k c flag_coded = refl
-coded_again v k c signed_coded = refl
-coded_again v k c (based_coded b) = refl
-
-mutual
-  layout_again : (v : Version) (l : Layout) → OfVersion v l → layout_in v (noted_from l) ≡ l
-  layout_again v (Leaf k c) h = ap (Leaf k) (coded_again v k c h)
-  layout_again v (ByteRange t d c) h = refl
-  layout_again v (ItemRange g d c l) h = ap (ItemRange g d c) (layout_again v l h)
-  layout_again v (Optional w l) h = ap (Optional w) (layout_again v l h)
-  layout_again v (Struct ls) h = ap (λ (ms : Layouts). Struct ms) (layouts_again v ls h)
-
-  layouts_again : (v : Version) (ls : Layouts) → AllOfVersion v ls → layouts_in v (all_noted_from ls) ≡ ls
-  layouts_again v NoField h = refl
-  layouts_again v (Field i l ls) h = let e = layout_again v l h.0 in let f = layouts_again v ls h.1 in cc
-
 -- the layout that its nodes list
 pub listed_again : (v : Version) (l : Layout) → OfVersion v l → layout_in v (tree_of (shown_nodes (noted_from l))) ≡ l
-listed_again v l h = ap (layout_in v) (tree_shown (all_nodes (noted_from l)) ∙ tree_again (noted_from l)) ∙ layout_again v l h
-
-mutual
-  same_size : (l : Layout) → nodes (noted_from l) ≡ nodes l
-  same_size (Leaf k c) = refl
-  same_size (ByteRange t d c) = refl
-  same_size (ItemRange g d c l) = ap (λ n. 3 + n) (same_size l)
-  same_size (Optional w l) = ap (λ n. 2 + n) (same_size l)
-  same_size (Struct ls) = ap (λ n. 1 + n) (same_sizes ls)
-
-  same_sizes : (ls : Layouts) → nodes_all (all_noted_from ls) ≡ nodes_all ls
-  same_sizes NoField = refl
-  same_sizes (Field i l ls) = let e = same_size l in let f = same_sizes ls in cc
+listed_again v l h = ap (layout_in v) (tree_shown (all_nodes (noted_from l)) ∙ tree_again (noted_from l)) ∙ layout_from v l h
 
 long_shown : (l : Layout) → length (shown_nodes (noted_from l)) ≡ nodes (noted_from l)
 long_shown l = length-map (all_nodes (noted_from l)) shown ∙ length_nodes (noted_from l) kinds.Struct 0 0 0 0
@@ -105,7 +75,7 @@ root_stands v l h = record {
   may = root_may l h.root;
   pair = tt;
   formed = h.kind_tree.formed;
-  few = omega (arith, h.kind_tree.few, same_size l);
+  few = omega (arith, h.kind_tree.few, nodes_from l);
   shallow = omega (arith, h.kind_tree.shallow);
   narrow = h.kind_tree.narrow;
   coded = h.coded;
@@ -137,7 +107,7 @@ root_from (Optional w l) m = absurd cc
 root_from (Struct ls) m = tt
 
 root_few : (l : Layout) → 0 + nodes (noted_from l) ≤ 4096 → nodes l ≤ 4096
-root_few l h = omega (arith, h, same_size l)
+root_few l h = omega (arith, h, nodes_from l)
 
 root_shallow : (n : ℕ) → 1 + n ≤ 33 → n ≤ 32
 root_shallow n h = omega (arith, h)

@@ -1,5 +1,5 @@
 -- Where a node stands in the list of all nodes: which nodes are below it, and that none behind these is its child.
-use Rattle.std.proofs.Common.{◌≡◌, ◌⊎◌, inl, inr, ℕ, zero, suc, ◌+◌, ◌-◌, ◌<◌, ◌≤◌, List, [], ◌∷◌, ◌++◌, pos, arith, refl, ap, sym, ◌∙◌, subst, length, append_assoc, length-append}
+use Rattle.std.proofs.Common.{◌≡◌, ◌⊎◌, inl, inr, ℕ, zero, suc, ◌+◌, ◌-◌, ◌<◌, List, [], ◌∷◌, ◌++◌, pos, arith, refl, ap, sym, ◌∙◌, subst, length, append_assoc, length-append}
 use Rattle.std.proofs.lemmas.List.{append-nil}
 use Rattle.frozen_model.specs.Trees.{Leaf, ByteRange, ItemRange, Optional, Struct, NoField, Field, nodes, nodes_all, Part, itself, in_item, in_optional, in_struct, PartAll, in_first, in_later}
 use Rattle.layout_tree.specs.declared.node.NodeSpec.{NodeSpec}
@@ -9,7 +9,7 @@ use Rattle.layout_tree.specs.Listing.{Noted, AllNoted, inline, item_struct, spec
 use Rattle.layout_tree.specs.Segments.{head_node, rest_nodes}
 use Rattle.layout_tree.proofs.Settling.{split_nodes}
 use Rattle.layout_tree.proofs.Place.{length_nodes}
-use Rattle.layout_tree.proofs.Numbers.{IsLone}
+use Rattle.layout_tree.proofs.Numbers.{IsLone, below_or}
 
 -- a node and those below it
 pub nodes_below : (t : Noted) (i : ℕ) → nodes t ≡ suc (length (rest_nodes t i))
@@ -142,13 +142,6 @@ lone_spot node pre post i n e h lone = record {
   apart = h;
   part = inr (lone, refl);
 }
-
--- below or not
-below_or : (m n : ℕ) → (m < n) ⊎ (n ≤ m)
-below_or zero zero = inr (omega arith)
-below_or zero (suc n) = inl (omega arith)
-below_or (suc m) zero = inr (omega arith)
-below_or (suc m) (suc n) = elim (below_or m n) [ inl h ↦ inl (omega arith) | inr h ↦ inr (omega arith) ]
 
 mutual
   spot : (t : Noted) (sk : Kind) (i p f o k n : ℕ) → k < nodes t → n ≡ i + k → Spot (λ s. Part t i s n) (nodes_of t sk i p f o) i n

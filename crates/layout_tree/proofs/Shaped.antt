@@ -10,9 +10,8 @@ use Rattle.frozen_model.specs.Trees.{AllLeafwise, leaf, byte_range, item_range, 
 use Rattle.frozen_model.specs.Trees.{field}
 use Rattle.frozen_model.specs.Values.{InBits}
 use Rattle.frozen_model.specs.Layouts.{Version2, IsCoded, flag_coded, based_coded, Coded, OfVersion}
-use Rattle.frozen_model.specs.Layouts.{AllOfVersion, Legal, AllLegal, IsDescribed, described}
+use Rattle.frozen_model.specs.Layouts.{AllOfVersion, Legal, AllLegal, described}
 use Rattle.frozen_model.specs.Holding.{Blank, AllBlank}
-use Rattle.frozen_laws.proofs.SameKinds.{struct_along, kind_tree_along}
 use Rattle.layout_tree.specs.declared.node.NodeSpec.{NodeSpec}
 use Rattle.layout_tree.specs.declared.node.FormVersion.TheVariants.{Second}
 use Rattle.layout_tree.specs.Listing.{Noted, AllNoted, coded, layout_in, layouts_in, settled, settled_all}
@@ -141,17 +140,6 @@ mutual
       (layouts_in Version2 (all_blank ks))
   all_blank_alike NoField = no_field
   all_blank_alike (Field i l ls) = field (blank_alike l) (all_blank_alike ls)
-
-pub shape_described : (k : KindTree) → IsKindTree k → IsStruct k → IsDescribed (shape_of k)
-shape_described k h r = record {
-  relaxing = tt;
-  layout = record {
-    root = struct_along (blank_alike k) r;
-    kind_tree = kind_tree_along (blank_alike k) h;
-    coded = blank_coded k;
-    legal = blank_legal k;
-  };
-}
 
 -- all its widths are 0
 mutual

@@ -30,7 +30,7 @@ coded_from v k c signed_coded = refl
 coded_from v k c (based_coded b) = refl
 
 mutual
-  layout_from : (v : Version) (l : Layout) → OfVersion v l → layout_in v (noted_from l) ≡ l
+  pub layout_from : (v : Version) (l : Layout) → OfVersion v l → layout_in v (noted_from l) ≡ l
   layout_from v (Leaf k c) h = ap (Leaf k) (coded_from v k c h)
   layout_from v (ByteRange t d c) h = refl
   layout_from v (ItemRange g d c l) h = ap (ItemRange g d c) (layout_from v l h)
@@ -67,7 +67,7 @@ mutual
   all_settled_from (Field i l ls) = let e = settled_from l in let f = all_settled_from ls in cc
 
 mutual
-  nodes_from : (l : Layout) → nodes (noted_from l) ≡ nodes l
+  pub nodes_from : (l : Layout) → nodes (noted_from l) ≡ nodes l
   nodes_from (Leaf k c) = refl
   nodes_from (ByteRange t d c) = refl
   nodes_from (ItemRange g d c l) = ap (λ n. 3 + n) (nodes_from l)

@@ -1,12 +1,12 @@
 -- What each form of a value comes to.
-use Rattle.std.proofs.Common.{◌≡◌, ℕ, zero, suc, ◌+◌, ◌-◌, ◌*◌, ◌/◌, ◌%◌, ◌^◌, ◌≤◌, ◌<◌, List, [], ◌++◌, Bool}
+use Rattle.std.proofs.Common.{◌≡◌, ℕ, suc, ◌+◌, ◌-◌, ◌*◌, ◌/◌, ◌%◌, ◌^◌, ◌≤◌, ◌<◌, List, [], ◌++◌, Bool}
 use Rattle.std.proofs.Common.{true, false, cond, length, ℤ, arith, refl, ap, sym, ◌∙◌, subst, replicate}
 use Rattle.std.proofs.lemmas.List.{append-nil}
 use Rattle.frozen_model.specs.Bits.{bits, bits_of, digits}
 use Rattle.frozen_model.specs.Trees.{LeafKind, Flag, Integer, ByteKind, Holder, Leaf, ByteRange, ItemRange}
 use Rattle.frozen_model.specs.Trees.{Optional, Struct}
-use Rattle.frozen_model.specs.Values.{Atom, Truth, Number, Value, Values, One, Bytes, Items, Absent, Present}
-use Rattle.frozen_model.specs.Values.{count, Of, one, bytes, items, present, OfEach}
+use Rattle.frozen_model.specs.Values.{Atom, Truth, Number, Value, Values, One, Bytes, Absent, Present}
+use Rattle.frozen_model.specs.Values.{count, Of, one, OfEach}
 use Rattle.frozen_model.specs.Layouts.{Version, Coded, Unsigned, Layout, Fits, stored, number_of, width}
 use Rattle.frozen_model.specs.Layouts.{stride}
 use Rattle.frozen_model.specs.Packing.{extent, extents, bytes_for, distance, range_bits, image, images, tail}
@@ -22,8 +22,9 @@ use Rattle.std.proofs.Math.Nat.{mul-le-mul_right}
 use Rattle.frozen_laws.proofs.Unique.{length_range_bits}
 use Rattle.frozen_model.proofs.Fields.{length_bits_of}
 use Rattle.layout_tree.specs.Listing.{Noted, layout_in}
-use Rattle.layout_tree.specs.Reading.{IsRange, IsHolder, IsOptional, distance_width, count_width, isset_width}
+use Rattle.layout_tree.specs.Reading.{IsRange, IsHolder, distance_width, count_width, isset_width}
 use Rattle.layout_tree.specs.Reading.{item_of}
+use Rattle.value_bounds.proofs.Forms.{BytesAt, ItemsAt, absent_at, PresentAt}
 use Rattle.freezer.specs.Writing.{Writes, Ready, Wrote, EachReady, EachWrote}
 use Rattle.freezer.specs.Leaves.{StoresAt}
 use mir.Val.{bool_byte}
@@ -32,19 +33,6 @@ use Rattle.freezer.proofs.Puts.{put, put_writes, copy_in_block}
 use Rattle.typed_tree.proofs.Forms.{AreItems}
 
 -- ---- leaves
-
-pub record LeafAt (l : Layout) (x : Atom) (at : ℕ) : Type 0 where
-  pub kind : LeafKind
-  pub code : Coded
-  pub is : l ≡ Leaf kind code
-  pub fits : Fits code (number_of x)
-
-pub leaf_at : (l : Layout) (x : Atom) (at : ℕ) → Of l (One x) → HoldsAt l (One x) at → LeafAt l x at
-leaf_at (Leaf k c) x at o h = record { kind = k; code = c; is = refl; fits = h }
-leaf_at (ByteRange t d c) x at o h = elim o [ ]
-leaf_at (ItemRange g d c l) x at o h = elim o [ ]
-leaf_at (Optional w l) x at o h = elim o [ ]
-leaf_at (Struct ls) x at o h = elim o [ ]
 
 pub number_at : (l : Layout) (z : ℤ) (at : ℕ) → Of l (One (Number z)) → HoldsAt l (One (Number z)) at
     → StoresAt l z
@@ -110,44 +98,22 @@ wrote_leaf l u k c x w n old new b bit el eu ew en t ln h =
 
 pub wrote_absent : (l : Layout) (u : Value) (old : Space) (b : Span) (bit : ℕ) → Of l u → u ≡ Absent
     → Wrote l u old old b bit
-wrote_absent l u old b bit o e = subst (λ y. Wrote l y old old b bit) (sym e) (go l (subst (Of l) e o))
-  where
-    go : (l : Layout) → Of l Absent → Wrote l Absent old old b bit
-    go (Optional w l) o = record {
+wrote_absent l u old b bit o e =
+    let k = absent_at l u e o in
+    subst (λ (z : Layout). Wrote z u old old b bit) (sym k.is)
+    (subst (λ y. Wrote (Optional k.width k.inner) y old old b bit) (sym e)
+    (record {
       taken = omega arith;
       length = refl;
-      written = writes_zeros (bits_of old.bytes) (8 * b.start + bit) (w + stride l) (8 * old.taken);
-    }
-    go (Leaf k c) o = elim o [ ]
-    go (ByteRange t d c) o = elim o [ ]
-    go (ItemRange g d c l) o = elim o [ ]
-    go (Struct ls) o = elim o [ ]
+      written = writes_zeros (bits_of old.bytes) (8 * b.start + bit) (k.width + stride k.inner)
+          (8 * old.taken);
+    }))
 
-pub record PresentAt (l : Layout) (x : Value) (at : ℕ) : Type 0 where
-  pub w : ℕ
-  pub inner : Layout
-  pub is : l ≡ Optional w inner
-  pub form : Of inner x
-  pub some : 1 ≤ w
-  pub holds : HoldsAt inner x at
-
-pub present_at : (l : Layout) (u x : Value) (at : ℕ) → u ≡ Present x → Of l u → HoldsAt l u at
-    → PresentAt l x at
-present_at l u x at e o h = go l (subst (Of l) e o) (subst (λ y. HoldsAt l y at) e h)
-  where
-    go : (l : Layout) → Of l (Present x) → HoldsAt l (Present x) at → PresentAt l x at
-    go (Optional w l) (present o) h = record {
-      w = w;
-      inner = l;
-      is = refl;
-      form = o;
-      some = h.0;
-      holds = h.1;
-    }
-    go (Leaf k c) o h = elim o [ ]
-    go (ByteRange t d c) o h = elim o [ ]
-    go (ItemRange g d c l) o h = elim o [ ]
-    go (Struct ls) o h = elim o [ ]
+-- the inner layout of a present optional holds its value
+present_holds : (l : Layout) (u x : Value) (at : ℕ) (p : PresentAt l x) → u ≡ Present x → HoldsAt l u at
+    → HoldsAt p.inner x at
+present_holds l u x at p e h =
+    (subst (λ y. HoldsAt (Optional p.width p.inner) y at) e (subst (λ (z : Layout). HoldsAt z u at) p.is h)).1
 
 pub wrote_present : (l : Layout) (u x : Value) (w : ℕ) (m : Layout) (old mid new : Space) (b : Span) (bit : ℕ)
     → l ≡ Optional w m → u ≡ Present x
@@ -181,37 +147,11 @@ wrote_present l u x w m old mid new b bit el eu t ln h r =
 
 -- ---- lists, sets and maps
 
-pub record ItemsAt (l : Layout) (vs : Values) (at : ℕ) : Type 0 where
-  pub h : Holder
-  pub d : ℕ
-  pub c : ℕ
-  pub item : Layout
-  pub is : l ≡ ItemRange h d c item
-  pub few : count vs < 2 ^ 31
-  pub form : OfEach item vs
-  pub fits : RangeFits d c (count vs) at
-  pub holds : HoldsEach item vs (bytes_for (count vs * stride item))
-
-pub items_at : (l : Layout) (u : Value) (vs : Values) (at : ℕ) → AreItems u vs → Of l u → HoldsAt l u at
-    → ItemsAt l vs at
-items_at l u vs at e o h = go l e.holder (subst (Of l) e.is o) (subst (λ y. HoldsAt l y at) e.is h)
-  where
-    go : (l : Layout) (g : Holder) → Of l (Items g vs) → HoldsAt l (Items g vs) at → ItemsAt l vs at
-    go (ItemRange f d c l) g (items n r o) h = record {
-      h = f;
-      d = d;
-      c = c;
-      item = l;
-      is = refl;
-      few = n;
-      form = o;
-      fits = h.0;
-      holds = h.1;
-    }
-    go (Leaf k c) g o h = elim o [ ]
-    go (ByteRange t d c) g o h = elim o [ ]
-    go (Optional w l) g o h = elim o [ ]
-    go (Struct ls) g o h = elim o [ ]
+items_hold : (l : Layout) (u : Value) (vs : Values) (at : ℕ) (k : ItemsAt l vs) → AreItems u vs
+    → HoldsAt l u at → RangeFits k.d k.c (count vs) at × HoldsEach k.item vs (bytes_for (count vs * stride k.item))
+items_hold l u vs at k e h =
+    subst (λ y. HoldsAt (ItemRange k.h k.d k.c k.item) y at) e.is
+    (subst (λ (z : Layout). HoldsAt z u at) k.is h)
 
 -- the block of the items is taken, the distance and count are written, and then the items
 pub wrote_items : (u : Value) (vs : Values) (g : Holder) (d c : ℕ) (m : Layout) (old mid new : Space)
@@ -299,25 +239,6 @@ range_written b0 b1 p w d c x y n at q ew ex h k =
 
 -- ---- texts and bytes
 
-pub record BytesAt (l : Layout) (bs : List ℕ) (at : ℕ) : Type 0 where
-  pub t : ByteKind
-  pub d : ℕ
-  pub c : ℕ
-  pub is : l ≡ ByteRange t d c
-  pub few : length bs < 2 ^ 31
-  pub fits : RangeFits d c (length bs) at
-
-pub bytes_at : (l : Layout) (u : Value) (bs : List ℕ) (at : ℕ) → u ≡ Bytes bs → Of l u → HoldsAt l u at
-    → BytesAt l bs at
-bytes_at l u bs at e o h = go l (subst (Of l) e o) (subst (λ y. HoldsAt l y at) e h)
-  where
-    go : (l : Layout) → Of l (Bytes bs) → HoldsAt l (Bytes bs) at → BytesAt l bs at
-    go (ByteRange t d c) (bytes n a s) h = record { t = t; d = d; c = c; is = refl; few = n; fits = h }
-    go (Leaf k c) o h = elim o [ ]
-    go (ItemRange g d c l) o h = elim o [ ]
-    go (Optional w l) o h = elim o [ ]
-    go (Struct ls) o h = elim o [ ]
-
 pub wrote_bytes : (u : Value) (bs : List ℕ) (g : ByteKind) (d c : ℕ) (old mid new : Space) (b inner : Span)
     (bit : ℕ) → u ≡ Bytes bs
     → inner.start ≡ old.taken → mid.taken ≡ old.taken + length bs → new.taken ≡ mid.taken → length mid.bytes
@@ -366,21 +287,16 @@ RangeWrote l n tk mid b inner bit = (q : ℕ)
     → Writes (bits_of tk.bytes) (bits_of mid.bytes) (8 * b.start + bit) (stride l)
     (range_bits (distance_width l) (count_width l) n (inner.start - b.start)) q 0 []
 
-pub bytes_extent : (l : Layout) (u : Value) (bs : List ℕ) (at : ℕ) → BytesAt l bs at → u ≡ Bytes bs
+pub bytes_extent : (l : Layout) (u : Value) (bs : List ℕ) → BytesAt l bs → u ≡ Bytes bs
     → extent l u ≡ length bs
-bytes_extent l u bs at k e = ap (λ z. extent z u) k.is ∙ ap (extent (ByteRange k.t k.d k.c)) e
+bytes_extent l u bs k e = ap (λ z. extent z u) k.is ∙ ap (extent (ByteRange k.t k.d k.c)) e
 
-pub bytes_range : (l : Layout) (bs : List ℕ) (at : ℕ) → BytesAt l bs at → IsRange l
-    × RangeFits (distance_width l) (count_width l) (length bs) at
-bytes_range l bs at k = subst (λ (z : Layout). IsRange z
-    × RangeFits (distance_width z) (count_width z) (length bs) at) (sym k.is) (tt, k.fits)
-
-pub bytes_done : (l : Layout) (u : Value) (bs : List ℕ) (at : ℕ) (k : BytesAt l bs at)
+pub bytes_done : (l : Layout) (u : Value) (bs : List ℕ) (k : BytesAt l bs)
     (old tk mid new : Space) (b inner : Span) (bit : ℕ) → u ≡ Bytes bs → inner
     ≡ block_at old.taken (length bs) → tk ≡ took old inner
     → mid.taken ≡ tk.taken → length mid.bytes ≡ length tk.bytes → RangeWrote l (length bs) tk mid b inner bit
     → old.taken + length bs ≤ length old.bytes → new ≡ written mid inner bs → Wrote l u old new b bit
-bytes_done l u bs at k old tk mid new b inner bit eu ei et t ln f room en =
+bytes_done l u bs k old tk mid new b inner bit eu ei et t ln f room en =
     let si : inner.start ≡ old.taken = ap (λ z. z.start) ei in
     let li : inner.len ≡ length bs = ap (λ z. z.len) ei in
     let same : tk.bytes ≡ old.bytes = ap (λ z. z.bytes) et in
@@ -397,22 +313,24 @@ bytes_done l u bs at k old tk mid new b inner bit eu ei et t ln f room en =
     (ap length nb ∙ length-overwritten mid.bytes bs inner.start inside) h
     (ap bits_of nb ∙ copy_in_block mid.bytes bs inner.start inside))
 
-pub items_extent : (l : Layout) (u : Value) (vs : Values) (at : ℕ) → ItemsAt l vs at → AreItems u vs
+pub items_extent : (l : Layout) (u : Value) (vs : Values) → ItemsAt l vs → AreItems u vs
     → extent l u ≡ bytes_for (count vs * stride (item_of l)) + extents (item_of l) vs
-items_extent l u vs at k e = ap (λ z. extent z u) k.is ∙ ap (extent (ItemRange k.h k.d k.c k.item)) e.is
+items_extent l u vs k e = ap (λ z. extent z u) k.is ∙ ap (extent (ItemRange k.h k.d k.c k.item)) e.is
     ∙ sym (ap (λ z. bytes_for (count vs * stride (item_of z)) + extents (item_of z) vs) k.is)
 
-pub items_range : (l : Layout) (vs : Values) (at : ℕ) → ItemsAt l vs at → IsRange l × IsHolder l
-    × RangeFits (distance_width l) (count_width l) (count vs) at
-items_range l vs at k = subst (λ (z : Layout). IsRange z × IsHolder z
-    × RangeFits (distance_width z) (count_width z) (count vs) at) (sym k.is) (tt, tt, k.fits)
+pub items_range : (l : Layout) (u : Value) (vs : Values) (at : ℕ) → ItemsAt l vs → AreItems u vs
+    → HoldsAt l u at → IsRange l × IsHolder l × RangeFits (distance_width l) (count_width l) (count vs) at
+items_range l u vs at k e h = subst (λ (z : Layout). IsRange z × IsHolder z
+    × RangeFits (distance_width z) (count_width z) (count vs) at) (sym k.is)
+    (tt, tt, (items_hold l u vs at k e h).0)
 
-pub items_ready : (l : Layout) (u : Value) (vs : Values) (at blk : ℕ) (k : ItemsAt l vs at)
-    (old tk mid : Space) (inner : Span) → AreItems u vs → blk ≡ bytes_for (count vs * stride (item_of l))
+pub items_ready : (l : Layout) (u : Value) (vs : Values) (at blk : ℕ) (k : ItemsAt l vs)
+    (old tk mid : Space) (inner : Span) → AreItems u vs → HoldsAt l u at
+    → blk ≡ bytes_for (count vs * stride (item_of l))
     → inner ≡ block_at old.taken blk → tk ≡ took old inner
     → mid.taken ≡ tk.taken → length mid.bytes ≡ length tk.bytes → old.taken + extent l u ≤ length old.bytes
     → EachReady (item_of l) vs mid inner
-items_ready l u vs at blk k old tk mid inner eu eb ei et t ln room =
+items_ready l u vs at blk k old tk mid inner eu h eb ei et t ln room =
     let si : inner.start ≡ old.taken = ap (λ z. z.start) ei in
     let li : inner.len ≡ blk = ap (λ z. z.len) ei in
     let tt2 : tk.taken ≡ inner.start + inner.len = ap (λ z. z.taken) et in
@@ -421,23 +339,23 @@ items_ready l u vs at blk k old tk mid inner eu eb ei et t ln room =
     ≡ mid.taken - inner.start = omega (arith, t, tt2, li, eb) in
     let holds0 : HoldsEach (item_of l) vs (bytes_for (count vs * stride (item_of l))) = subst
     (λ (z : Layout). HoldsEach (item_of z) vs (bytes_for (count vs * stride (item_of z)))) (sym k.is)
-    k.holds in
+    (items_hold l u vs at k eu h).1 in
     record {
       form = subst (λ (z : Layout). OfEach (item_of z) vs) (sym k.is) k.form;
       holds = subst (λ z. HoldsEach (item_of l) vs z) far holds0;
-      room = omega (arith, room, items_extent l u vs at k eu, t, tt2, si, li, eb, ln, same);
+      room = omega (arith, room, items_extent l u vs k eu, t, tt2, si, li, eb, ln, same);
       taken = omega (arith, t, tt2);
       inside = omega (arith, li, eb);
       few = k.few;
     }
 
-pub items_done : (l : Layout) (u : Value) (vs : Values) (at blk : ℕ) (k : ItemsAt l vs at)
+pub items_done : (l : Layout) (u : Value) (vs : Values) (blk : ℕ) (k : ItemsAt l vs)
     (old tk mid new : Space) (b inner : Span) (bit : ℕ) → AreItems u vs → blk
     ≡ bytes_for (count vs * stride (item_of l)) → inner ≡ block_at old.taken blk → tk ≡ took old inner
     → mid.taken ≡ tk.taken → length mid.bytes ≡ length tk.bytes → b.start ≤ old.taken
     → RangeWrote l (count vs) tk mid b inner bit → EachWrote (item_of l) vs mid new inner 0
     → Wrote l u old new b bit
-items_done l u vs at blk k old tk mid new b inner bit eu eb ei et t ln low f r =
+items_done l u vs blk k old tk mid new b inner bit eu eb ei et t ln low f r =
     let si : inner.start ≡ old.taken = ap (λ z. z.start) ei in
     let same : tk.bytes ≡ old.bytes = ap (λ z. z.bytes) et in
     let item : item_of l ≡ k.item = ap item_of k.is in
@@ -460,25 +378,22 @@ pub byte_is : (b : Bool) → bool_byte b ≡ cond b 1 0
 byte_is true = refl
 byte_is false = refl
 
-pub present_width : (l : Layout) (x : Value) (at w : ℕ) (p : PresentAt l x at) → w ≡ isset_width l → w ≡ p.w
-present_width l x at w p e = e ∙ ap isset_width p.is
-
-pub present_optional : (l : Layout) (x : Value) (at : ℕ) (p : PresentAt l x at) → IsOptional l
-present_optional l x at p = subst (λ (z : Layout). IsOptional z) (sym p.is) tt
+pub present_width : (l : Layout) (x : Value) (w : ℕ) (p : PresentAt l x) → w ≡ isset_width l → w ≡ p.width
+present_width l x w p e = e ∙ ap isset_width p.is
 
 pub present_ready : (l : Layout) (u x : Value) (old mid : Space) (b : Span) (bit w : ℕ)
-    (p : PresentAt l x (old.taken - b.start)) → u ≡ Present x → w ≡ isset_width l → mid.taken ≡ old.taken
+    (p : PresentAt l x) → u ≡ Present x → w ≡ isset_width l → mid.taken ≡ old.taken
     → length mid.bytes ≡ length old.bytes
     → Ready l u old b bit → Ready p.inner x mid b (bit + w)
 present_ready l u x old mid b bit w p e ew t ln r =
-    let same : w ≡ p.w = present_width l x (old.taken - b.start) w p ew in
-    let bits : stride l ≡ p.w + stride p.inner = ap stride p.is in
+    let same : w ≡ p.width = present_width l x w p ew in
+    let bits : stride l ≡ p.width + stride p.inner = ap stride p.is in
     let tail_is : extent l u ≡ extent p.inner x = ap (λ z. extent z u) p.is
-    ∙ ap (extent (Optional p.w p.inner)) e in
+    ∙ ap (extent (Optional p.width p.inner)) e in
     let at2 : old.taken - b.start ≡ mid.taken - b.start = ap (λ z. z - b.start) (sym t) in
     record {
       form = p.form;
-      holds = subst (λ z. HoldsAt p.inner x z) at2 p.holds;
+      holds = subst (λ z. HoldsAt p.inner x z) at2 (present_holds l u x (old.taken - b.start) p e r.holds);
       room = omega (arith, r.room, tail_is, t, ln);
       taken = omega (arith, r.taken, t);
       inside = omega (arith, r.inside, same, bits);
@@ -486,12 +401,12 @@ present_ready l u x old mid b bit w p e ew t ln r =
     }
 
 pub present_done : (l : Layout) (u x : Value) (old mid new : Space) (b : Span) (bit w : ℕ)
-    (p : PresentAt l x (old.taken - b.start)) → u ≡ Present x → w ≡ isset_width l → mid.taken ≡ old.taken
+    (p : PresentAt l x) → u ≡ Present x → w ≡ isset_width l → mid.taken ≡ old.taken
     → length mid.bytes ≡ length old.bytes
     → bits_of mid.bytes ≡ put (bits_of old.bytes) (8 * b.start + bit) w (bits w 1)
     → Wrote p.inner x mid new b (bit + w) → Wrote l u old new b bit
 present_done l u x old mid new b bit w p e ew t ln h r =
-    let same : w ≡ p.w = present_width l x (old.taken - b.start) w p ew in
-    wrote_present l u x p.w p.inner old mid new b bit p.is e t ln
+    let same : w ≡ p.width = present_width l x w p ew in
+    wrote_present l u x p.width p.inner old mid new b bit p.is e t ln
     (subst (λ z. bits_of mid.bytes ≡ put (bits_of old.bytes) (8 * b.start + bit) z (bits z 1)) same h)
     (subst (λ z. Wrote p.inner x mid new b (bit + z)) same r)

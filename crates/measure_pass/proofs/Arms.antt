@@ -3,14 +3,14 @@ use Rattle.std.proofs.Common.{◌≡◌, inl, inr, ℕ, zero, suc, ◌+◌, ◌-
 use Rattle.std.proofs.Common.{true, false, length, ℤ, max, arith, refl, ap, sym, ◌∙◌, subst}
 use mir.Val.{bool_byte}
 use Rattle.frozen_model.specs.Bits.{digits, need_unsigned}
-use Rattle.frozen_model.specs.Trees.{LeafKind, Flag, Integer, Whole, ByteKind, Holder, Leaf, ByteRange}
+use Rattle.frozen_model.specs.Trees.{LeafKind, Flag, Integer, Whole, Leaf, ByteRange}
 use Rattle.frozen_model.specs.Trees.{ItemRange, Optional, Struct, nodes, greatest, Part, itself, in_item}
 use Rattle.frozen_model.specs.Trees.{in_optional, in_struct, PartAll, in_first, in_later}
 use Rattle.frozen_model.specs.Values.{Atom, Truth, Number, Value, Values, One, Bytes, Items, Absent, Present}
-use Rattle.frozen_model.specs.Values.{Record, count, Of, one, items, present}
+use Rattle.frozen_model.specs.Values.{Record, count, Of, one}
 use Rattle.frozen_model.specs.Layouts.{Version, Coded, Unsigned, Layout, need, number_of, width, stride}
 use Rattle.frozen_model.specs.Layouts.{Legal}
-use Rattle.frozen_model.specs.Packing.{extent, extents, bytes_for, distance}
+use Rattle.frozen_model.specs.Packing.{extents, bytes_for, distance}
 use Rattle.frozen_model.specs.Holding.{puts, puts_each, no_puts, widened}
 use Rattle.frozen_laws.specs.Everywhere.{RangeFits}
 use Rattle.layout_tree.specs.declared.layouts.Layouts.{Layouts}
@@ -22,6 +22,7 @@ use Rattle.layout_tree.proofs.Numbers.{item_is}
 use Rattle.layout_tree.proofs.Subs.{part_low, part_low_all, part_high}
 use Rattle.layout_tree.proofs.Noted.{tip_below}
 use Rattle.typed_tree.specs.Parts.{IsPresent}
+use Rattle.value_bounds.proofs.Forms.{BytesAt, ItemsAt, absent_at, PresentAt, present_at}
 use Rattle.measure_pass.specs.Growing.{grown, Hole, Grew, range_puts, Same, Ready, EachReady, RangeGrew}
 use Rattle.measure_pass.specs.Growing.{Visited, EachVisited}
 use Rattle.measure_pass.proofs.Grown.{with_is, grown_none}
@@ -293,45 +294,25 @@ visited_leaf l u k c x w old new n from el eu ew le en s =
 
 pub visited_absent : (l : Layout) (u : Value) (old : Layouts) (n from : ℕ) → u ≡ Absent → Of l u
     → Visited l u old old n from from
-visited_absent l u old n from e o = subst (λ (y : Value). Visited l y old old n from from) (sym e)
-    (go l (subst (Of l) e o))
-  where
-    go : (l : Layout) → Of l Absent → Visited l Absent old old n from from
-    go (Optional w l) o = record {
+visited_absent l u old n from e o =
+    let k = absent_at l u e o in
+    subst (λ (z : Layout). Visited z u old old n from from) (sym k.is)
+    (subst (λ (y : Value). Visited (Optional k.width k.inner) y old old n from from) (sym e)
+    (record {
       same = same_self old;
-      grew = grew_none (version_of old.version) (Optional w l) (noted_in old) n;
+      grew = grew_none (version_of old.version) (Optional k.width k.inner) (noted_in old) n;
       ends = omega arith;
-    }
-    go (Leaf k c) o = elim o [ ]
-    go (ByteRange t d c) o = elim o [ ]
-    go (ItemRange g d c l) o = elim o [ ]
-    go (Struct ls) o = elim o [ ]
+    }))
 
-pub record PresentAt (l : Layout) (x : Value) (from : ℕ) : Type 0 where
-  pub w : ℕ
-  pub inner : Layout
-  pub is : l ≡ Optional w inner
-  pub ready : Ready inner x from
+-- the layout and the value of a part, as the form that they have
+ready_as : (l m : Layout) (u x : Value) (from : ℕ) → l ≡ m → u ≡ x → Ready l u from → Ready m x from
+ready_as l m u x from el eu r = subst (λ y. Ready m y from) eu (subst (λ (z : Layout). Ready z u from) el r)
 
-pub present_at : (l : Layout) (u x : Value) (from : ℕ) → u ≡ Present x → Ready l u from → PresentAt l x from
-present_at l u x from e r = go l (subst (λ y. Ready l y from) e r)
-  where
-    inside : (w : ℕ) (m : Layout) → Of (Optional w m) (Present x)
-        → Legal (widened (Optional w m) (puts (Optional w m) (Present x) from)) → from + extent m x < 2 ^ 32
-        → PresentAt (Optional w m) x from
-    inside w m (present o) h s = record {
-      w = w;
-      inner = m;
-      is = refl;
-      ready = record { form = o; legal = h.1; small = s };
-    }
-
-    go : (l : Layout) → Ready l (Present x) from → PresentAt l x from
-    go (Optional w m) r = inside w m r.form r.legal r.small
-    go (Leaf k c) r = elim r.form [ ]
-    go (ByteRange t d c) r = elim r.form [ ]
-    go (ItemRange g d c l) r = elim r.form [ ]
-    go (Struct ls) r = elim r.form [ ]
+pub inner_ready : (l : Layout) (u x : Value) (from : ℕ) (p : PresentAt l x) → u ≡ Present x → Ready l u from
+    → Ready p.inner x from
+inner_ready l u x from p e r =
+    let h = ready_as l (Optional p.width p.inner) u (Present x) from p.is e r in
+    record { form = p.form; legal = h.legal.1; small = h.small }
 
 pub visited_present : (l : Layout) (u x : Value) (w : ℕ) (m : Layout) (old mid new : Layouts)
     (n from next : ℕ) → l ≡ Optional w m → u ≡ Present x
@@ -352,37 +333,17 @@ visited_present l u x w m old mid new n from next el eu en s r =
 
 -- ---- texts and bytes
 
-pub record BytesAt (l : Layout) (bs : List ℕ) (from : ℕ) : Type 0 where
-  pub t : ByteKind
-  pub d : ℕ
-  pub c : ℕ
-  pub is : l ≡ ByteRange t d c
-  pub item_range : RangeFits 32 32 (length bs) from
-  pub small : from + length bs < 2 ^ 32
+pub bytes_range : (l : Layout) (bs : List ℕ) → BytesAt l bs → IsRange l
+bytes_range l bs k = subst (λ (y : Layout). IsRange y) (sym k.is) tt
 
-pub bytes_at : (l : Layout) (u : Value) (bs : List ℕ) (from : ℕ) → u ≡ Bytes bs → Ready l u from
-    → BytesAt l bs from
-bytes_at l u bs from e r = go l (subst (λ y. Ready l y from) e r)
-  where
-    go : (l : Layout) → Ready l (Bytes bs) from → BytesAt l bs from
-    go (ByteRange t d c) r = record {
-      t = t;
-      d = d;
-      c = c;
-      is = refl;
-      item_range = (omega (arith, r.legal.0), omega (arith, r.legal.1));
-      small = r.small;
-    }
-    go (Leaf k c) r = elim r.form [ ]
-    go (ItemRange g d c l) r = elim r.form [ ]
-    go (Optional w l) r = elim r.form [ ]
-    go (Struct ls) r = elim r.form [ ]
-
-pub bytes_range : (l : Layout) (bs : List ℕ) (from : ℕ) → BytesAt l bs from → IsRange l
-bytes_range l bs from b = subst (λ (y : Layout). IsRange y) (sym b.is) tt
+pub bytes_fit : (l : Layout) (u : Value) (bs : List ℕ) (from : ℕ) → BytesAt l bs → u ≡ Bytes bs
+    → Ready l u from → RangeFits 32 32 (length bs) from
+bytes_fit l u bs from k e r =
+    let h = ready_as l (ByteRange k.t k.d k.c) u (Bytes bs) from k.is e r in
+    (omega (arith, h.legal.0), omega (arith, h.legal.1))
 
 pub visited_bytes : (l : Layout) (u : Value) (bs : List ℕ) (old new : Layouts) (n from k : ℕ) → u ≡ Bytes bs
-    → BytesAt l bs from → k ≡ length bs → RangeGrew l k from old new n → Visited l u old new n from (from + k)
+    → BytesAt l bs → k ≡ length bs → RangeGrew l k from old new n → Visited l u old new n from (from + k)
 visited_bytes l u bs old new n from k e b ek g =
     let g2 = subst (λ z. RangeGrew l z from old new n) ek g in
     let g3 = subst (λ (y : Layout). RangeGrew y (length bs) from old new n) b.is g2 in
@@ -392,60 +353,36 @@ visited_bytes l u bs old new n from k e b ek g =
 
 -- ---- lists, sets and maps
 
-pub record ItemsAt (l : Layout) (vs : Values) (from : ℕ) : Type 0 where
-  pub h : Holder
-  pub d : ℕ
-  pub c : ℕ
-  pub item : Layout
-  pub is : l ≡ ItemRange h d c item
-  pub few : count vs < 2 ^ 31
-  pub item_range : RangeFits 32 32 (count vs) from
-  pub ready : EachReady item vs (bytes_for (count vs * stride item))
-  pub small : from + (bytes_for (count vs * stride item) + extents item vs) < 2 ^ 32
+pub items_range : (l : Layout) (vs : Values) → ItemsAt l vs → IsRange l × IsHolder l
+items_range l vs k = subst (λ (y : Layout). IsRange y × IsHolder y) (sym k.is) (tt, tt)
 
-pub items_at : (l : Layout) (u : Value) (vs : Values) (from : ℕ) → AreItems u vs → Ready l u from
-    → ItemsAt l vs from
-items_at l u vs from e r = go l e.holder (subst (λ y. Ready l y from) e.is r)
-  where
-    inside : (g f : Holder) (d c : ℕ) (m : Layout) → Of (ItemRange g d c m) (Items f vs)
-        → Legal (widened (ItemRange g d c m) (puts (ItemRange g d c m) (Items f vs) from))
-        → from + (bytes_for (count vs * stride m) + extents m vs) < 2 ^ 32
-        → ItemsAt (ItemRange g d c m) vs from
-    inside g f d c m (items n ri o) h s = record {
-      h = g;
-      d = d;
-      c = c;
-      item = m;
-      is = refl;
-      few = n;
-      item_range = (omega (arith, h.0), omega (arith, h.1));
-      ready = record { form = o; legal = h.2; small = omega (arith, s) };
-      small = s;
-    }
+pub items_fit : (l : Layout) (u : Value) (vs : Values) (from : ℕ) → ItemsAt l vs → AreItems u vs
+    → Ready l u from → RangeFits 32 32 (count vs) from
+items_fit l u vs from k e r =
+    let h = ready_as l (ItemRange k.h k.d k.c k.item) u (Items e.holder vs) from k.is e.is r in
+    (omega (arith, h.legal.0), omega (arith, h.legal.1))
 
-    go : (l : Layout) (f : Holder) → Ready l (Items f vs) from → ItemsAt l vs from
-    go (ItemRange g d c m) f r = inside g f d c m r.form r.legal r.small
-    go (Leaf k c) f r = elim r.form [ ]
-    go (ByteRange t d c) f r = elim r.form [ ]
-    go (Optional w l) f r = elim r.form [ ]
-    go (Struct ls) f r = elim r.form [ ]
+pub items_small : (l : Layout) (u : Value) (vs : Values) (from : ℕ) (k : ItemsAt l vs) → AreItems u vs
+    → Ready l u from → from + (bytes_for (count vs * stride k.item) + extents k.item vs) < 2 ^ 32
+items_small l u vs from k e r =
+    (ready_as l (ItemRange k.h k.d k.c k.item) u (Items e.holder vs) from k.is e.is r).small
 
-pub items_range : (l : Layout) (vs : Values) (from : ℕ) → ItemsAt l vs from → IsRange l × IsHolder l
-items_range l vs from b = (
-  subst (λ (y : Layout). IsRange y) (sym b.is) tt,
-  subst (λ (y : Layout). IsHolder y)
-      (sym b.is) tt,
-)
-
-pub items_ready : (l : Layout) (vs : Values) (from block : ℕ) → ItemsAt l vs from → block
-    ≡ bytes_for (count vs * stride (item_of l)) → EachReady (item_of l) vs block
-items_ready l vs from block b e =
-    let i : item_of l ≡ b.item = ap item_of b.is in
-    subst (λ z. EachReady (item_of l) vs z) (sym e)
-    (subst (λ (y : Layout). EachReady y vs (bytes_for (count vs * stride y))) (sym i) b.ready)
+pub items_ready : (l : Layout) (u : Value) (vs : Values) (from block : ℕ) → ItemsAt l vs → AreItems u vs
+    → Ready l u from → block ≡ bytes_for (count vs * stride (item_of l)) → EachReady (item_of l) vs block
+items_ready l u vs from block k e r eb =
+    let i : item_of l ≡ k.item = ap item_of k.is in
+    let h = ready_as l (ItemRange k.h k.d k.c k.item) u (Items e.holder vs) from k.is e.is r in
+    let full = bytes_for (count vs * stride k.item) in
+    let ready : EachReady k.item vs full = record {
+      form = k.form;
+      legal = h.legal.2;
+      small = omega (arith, items_small l u vs from k e r);
+    } in
+    subst (λ z. EachReady (item_of l) vs z) (sym eb)
+    (subst (λ (y : Layout). EachReady y vs (bytes_for (count vs * stride y))) (sym i) ready)
 
 pub visited_items : (l : Layout) (u : Value) (vs : Values) (old mid new : Layouts) (n from k block next : ℕ)
-    → AreItems u vs → ItemsAt l vs from → k ≡ count vs → block ≡ bytes_for (count vs * stride (item_of l))
+    → AreItems u vs → ItemsAt l vs → k ≡ count vs → block ≡ bytes_for (count vs * stride (item_of l))
     → RangeGrew l k from old mid n → EachVisited (item_of l) vs mid new (n + 3) block next
     → Visited l u old new n from (from + next)
 visited_items l u vs old mid new n from k block next e b ek eb g r =
@@ -470,14 +407,14 @@ visited_items l u vs old mid new n from k block next e b ek eb g r =
       ends = ap (λ z. from + z) r3.ends;
     }))
 
-pub items_end_at : (l : Layout) (vs : Values) (from block next : ℕ) (mid new : Layouts) (n : ℕ)
-    → ItemsAt l vs from → block ≡ bytes_for (count vs * stride (item_of l))
+pub items_end_at : (l : Layout) (u : Value) (vs : Values) (from block next : ℕ) (mid new : Layouts) (n : ℕ)
+    → ItemsAt l vs → AreItems u vs → Ready l u from → block ≡ bytes_for (count vs * stride (item_of l))
     → EachVisited (item_of l) vs mid new n block next → from + next < 2 ^ 32
-items_end_at l vs from block next mid new n b eb r =
-    let i : item_of l ≡ b.item = ap item_of b.is in
-    let eb2 : block ≡ bytes_for (count vs * stride b.item) = eb
+items_end_at l u vs from block next mid new n k e r eb v =
+    let i : item_of l ≡ k.item = ap item_of k.is in
+    let eb2 : block ≡ bytes_for (count vs * stride k.item) = eb
     ∙ ap (λ (y : Layout). bytes_for (count vs * stride y)) i in
-    omega (arith, b.small, r.ends, eb2, ap (λ (y : Layout). extents y vs) i)
+    omega (arith, items_small l u vs from k e r, v.ends, eb2, ap (λ (y : Layout). extents y vs) i)
 
 pub distance_none : (n at x : ℕ) → n ≡ 0 → x ≡ 0 → x ≡ distance n at
 distance_none zero at x e h = h
@@ -497,8 +434,8 @@ flag_here l n u from node h r = go u h r
 
     go : (u : Value) → IsPresent u → Ready (layout_in v (sub (noted_in l) n)) u from
         → LeafAt (noted_in l) (n + 1) 1
-    go (Present x) h r = let p = present_at (layout_in v (sub (noted_in l) n)) (Present x) x from refl r in
-        flag_tip v (noted_in l) n p.w p.inner node p.is
+    go (Present x) h r = let p = present_at (layout_in v (sub (noted_in l) n)) (Present x) x refl r.form in
+        flag_tip v (noted_in l) n p.width p.inner node p.is
     go (One x) h r = absurd h
     go (Bytes x) h r = absurd h
     go (Items g x) h r = absurd h

@@ -5,7 +5,7 @@ use Rattle.std.proofs.lemmas.List.{append-nil}
 use Rattle.frozen_model.specs.Trees.{LeafKind, Holder, Leaf, ByteRange, ItemRange, Optional, Struct, NoField}
 use Rattle.frozen_model.specs.Trees.{Field, nodes, Part, Alike, AllLeafwise}
 use Rattle.frozen_model.specs.Values.{Value, Values, One, Bytes, Items, Absent, Present, Record, NoValue, And}
-use Rattle.frozen_model.specs.Values.{count, Of, items}
+use Rattle.frozen_model.specs.Values.{count, Of}
 use Rattle.frozen_model.specs.Layouts.{Version, Coded, Layout, Layouts, stride}
 use Rattle.frozen_model.specs.Packing.{extent, bytes_for}
 use Rattle.frozen_laws.proofs.Leafwise.{leafwise_same, all_leafwise_same}

@@ -1,5 +1,5 @@
 -- Laws of growing.
-use Rattle.std.proofs.Common.{◌≡◌, ℕ, ℤ, ◌+◌, List, [], ◌∷◌, ◌++◌, max, arith, refl, ap, sym, ◌∙◌}
+use Rattle.std.proofs.Common.{◌≡◌, ℕ, ℤ, List, [], ◌∷◌, ◌++◌, max, arith, refl, ap, sym, ◌∙◌}
 use Rattle.frozen_model.specs.Trees.{LeafKind, Flag, Integer, Leaf, ByteRange, ItemRange, Optional, Struct}
 use Rattle.frozen_model.specs.Trees.{NoField, Field, leaf, byte_range, item_range, optional, struct, no_field}
 use Rattle.frozen_model.specs.Trees.{field}

@@ -1,5 +1,5 @@
 -- Ranges of values, and passes over them.
-use Rattle.std.proofs.Common.{◌≡◌, ℕ, ◌+◌, ◌≤◌, List, [], ◌++◌, max, ℤ, arith, refl, ap, ◌∙◌}
+use Rattle.std.proofs.Common.{◌≡◌, ℕ, ◌≤◌, List, [], ◌++◌, max, ℤ, arith, refl, ap, ◌∙◌}
 use Rattle.frozen_model.specs.Trees.{LeafKind, Leaf, ByteRange, ItemRange, Optional, Struct, NoField, Field}
 use Rattle.frozen_model.specs.Trees.{AllLeafwise, leaf, byte_range, item_range, optional, struct, no_field}
 use Rattle.frozen_model.specs.Trees.{field}

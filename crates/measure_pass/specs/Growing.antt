@@ -1,6 +1,6 @@
 -- What a pass does to noted widths.
-use Rattle.std.specs.Prelude.{◌≡◌, ℕ, ℤ, ◌+◌, ◌^◌, ◌<◌, ◌≤◌, List, [], ◌∷◌, max}
-use Rattle.frozen_model.specs.Trees.{LeafKind, Leaf, ByteRange, ItemRange, Optional, Struct, NoField, Field}
+use Rattle.std.specs.Prelude.{◌≡◌, ℕ, ◌+◌, ◌^◌, ◌<◌, ◌≤◌, [], ◌∷◌, max}
+use Rattle.frozen_model.specs.Trees.{Leaf, ByteRange, ItemRange, Optional, Struct, Field}
 use Rattle.frozen_model.specs.Values.{Value, Values, Of, OfEach, cells, cell_limit}
 use Rattle.frozen_model.specs.Layouts.{Version, Version2, Layout, Layouts as LayoutsOf, Legal, Described}
 use Rattle.frozen_model.specs.Layouts.{described}
@@ -8,7 +8,7 @@ use Rattle.frozen_model.specs.Packing.{extent, extents, extent_all, distance}
 use Rattle.frozen_model.specs.Holding.{Puts, AllPuts, Based, puts_of, puts, puts_each, puts_all, no_puts}
 use Rattle.frozen_model.specs.Holding.{widened, pass, greatest_need, greatest_digits}
 use Rattle.layout_tree.specs.declared.layouts.Layouts.{Layouts}
-use Rattle.layout_tree.specs.Listing.{Noted, AllNoted, Width, coded, layout_in, layouts_in, version_of}
+use Rattle.layout_tree.specs.Listing.{Noted, AllNoted, coded, layout_in, layouts_in, version_of}
 use Rattle.layout_tree.specs.Nodes.{layout_of, noted_in}
 use Rattle.layout_tree.specs.Noting.{noting, noted_at, all_noted_at, LeafAt, LeafAmong, wide_at, wide_among}
 

@@ -1,5 +1,5 @@
 -- What measuring begins with, and what it comes to.
-use Rattle.std.specs.Prelude.{◌≡◌, ℕ, ◌+◌, Bool, true}
+use Rattle.std.specs.Prelude.{◌≡◌, ℕ, ◌+◌, true}
 use Rattle.frozen_model.specs.Values.{Value}
 use Rattle.frozen_model.specs.Layouts.{Version2, Layout, Described, stride}
 use Rattle.frozen_model.specs.Packing.{bytes_for, extent}

@@ -1,24 +1,23 @@
 -- A layout whose bases are the least numbers is what measuring begins with.
-use Rattle.std.proofs.Common.{◌≡◌, ℕ, ℤ, ◌+◌, ◌*◌, ◌≤◌, List, [], ◌∷◌, ◌++◌, map, length, arith, refl, ap}
+use Rattle.std.proofs.Common.{◌≡◌, ℕ, ℤ, ◌+◌, ◌*◌, List, [], ◌∷◌, ◌++◌, map, length, arith, refl, ap}
 use Rattle.std.proofs.Common.{sym, ◌∙◌, subst}
 use Rattle.std.proofs.lemmas.List.{length-map}
-use Rattle.std.specs.List.{AllByRecursion}
-use Rattle.frozen_model.specs.Trees.{LeafKind, Flag, Integer, value_bits, Leaf, ByteRange, ItemRange}
-use Rattle.frozen_model.specs.Trees.{Optional, Struct, NoField, Field, nodes, Leafwise, AllLeafwise, leaf}
+use Rattle.frozen_model.specs.Trees.{LeafKind, Flag, Integer, Leaf, ByteRange, ItemRange}
+use Rattle.frozen_model.specs.Trees.{Optional, Struct, NoField, Field, nodes, AllLeafwise, leaf}
 use Rattle.frozen_model.specs.Trees.{byte_range, item_range, optional, struct, no_field, field}
-use Rattle.frozen_model.specs.Values.{InBits, Number, Truth, Value, Values, count, Of, one, bytes, items}
+use Rattle.frozen_model.specs.Values.{Number, Truth, Value, Values, count, Of, one, bytes, items}
 use Rattle.frozen_model.specs.Values.{absent, present, record_of, OfEach, none, more, OfAll, no_part, part}
 use Rattle.frozen_model.specs.Values.{IsOf, Atom}
-use Rattle.frozen_model.specs.Layouts.{Version, Version2, Coded, FromBase, IsCoded, flag_coded, based_coded}
+use Rattle.frozen_model.specs.Layouts.{Version, Version2, Coded, FromBase, flag_coded, based_coded}
 use Rattle.frozen_model.specs.Layouts.{Layout, Layouts, OfVersion, AllOfVersion, Narrower, AllNarrower}
-use Rattle.frozen_model.specs.Layouts.{stride, width, number_of}
+use Rattle.frozen_model.specs.Layouts.{stride, number_of}
 use Rattle.frozen_model.specs.Packing.{extent, bytes_for}
-use Rattle.frozen_model.specs.Holding.{Puts, AllPuts, puts, puts_each, puts_all, puts_of, no_puts, both}
+use Rattle.frozen_model.specs.Holding.{Puts, AllPuts, puts, puts_each, puts_all, puts_of, no_puts}
 use Rattle.frozen_model.specs.Holding.{IsBasedOn, Based, Blank, AllBlank, IsStart}
 use Rattle.frozen_laws.proofs.Leafwise.{leafwise_chain, no_puts_right, both_right}
 use Rattle.frozen_laws.proofs.Passes.{puts_of_grow}
 use Rattle.frozen_laws.proofs.Puts.{of_leafwise, puts_beside}
-use Rattle.layout_tree.specs.Listing.{Noted, AllNoted, LeafWidths, coded, layout_in, layouts_in, settled}
+use Rattle.layout_tree.specs.Listing.{Noted, AllNoted, layout_in, layouts_in, settled}
 use Rattle.layout_tree.specs.Listing.{settled_all}
 use Rattle.layout_tree.proofs.Readings.{same_nodes}
 use Rattle.value_bounds.specs.declared.bounds.Bounds.{Bounds}

@@ -1,7 +1,7 @@
 -- A tree with a hole: what is done to the part in the hole is done to the whole.
-use Rattle.std.proofs.Common.{◌≡◌, ◌⊎◌, inl, inr, ℕ, ℤ, zero, suc, ◌+◌, ◌-◌, ◌<◌, ◌≤◌, Bool, arith, refl, ap}
-use Rattle.std.proofs.Common.{sym, ◌∙◌, subst}
-use Rattle.frozen_model.specs.Trees.{Holder, ItemRange, Optional, Struct, NoField, Field, nodes, nodes_all}
+use Rattle.std.proofs.Common.{◌≡◌, inl, inr, ℕ, ℤ, suc, ◌+◌, ◌-◌, ◌<◌, arith, refl, ap}
+use Rattle.std.proofs.Common.{◌∙◌, subst}
+use Rattle.frozen_model.specs.Trees.{Holder, ItemRange, Optional, Struct, Field, nodes, nodes_all}
 use Rattle.layout_tree.specs.Listing.{Noted, AllNoted, Width}
 use Rattle.layout_tree.specs.Basing.{based_at, all_based_at, BaseAt, BaseAmong, whole_at, whole_among}
 use Rattle.layout_tree.proofs.Subs.{below_test, above_test}

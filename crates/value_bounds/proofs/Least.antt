@@ -1,5 +1,5 @@
 -- The least of numbers.
-use Rattle.std.proofs.Common.{◌≡◌, ◌⊎◌, inl, inr, ℕ, ◌-◌, ◌^◌, ◌<◌, ◌≤◌, List, [], ◌∷◌, ℤ, pos, negsuc, Bool}
+use Rattle.std.proofs.Common.{◌≡◌, ◌⊎◌, inl, inr, ◌-◌, ◌^◌, List, [], ◌∷◌, ℤ, pos, negsuc, Bool}
 use Rattle.std.proofs.Common.{true, false, arith, refl, ap, sym, ◌∙◌, subst}
 use Rattle.std.specs.Prelude.{◌≤ℤ◌, int_lt, cond, if◌then◌else◌}
 use Rattle.std.specs.Int.{int_min, int_max}

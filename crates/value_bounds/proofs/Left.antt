@@ -1,5 +1,5 @@
 -- What is left to see, as the loops over items and over fields go on.
-use Rattle.std.proofs.Common.{◌≡◌, ℕ, ◌+◌, List, [], ◌∷◌, ◌++◌, length, arith, refl, ap, sym, ◌∙◌, subst}
+use Rattle.std.proofs.Common.{◌≡◌, ℕ, ◌+◌, List, arith, ap, sym, ◌∙◌, subst}
 use Rattle.frozen_model.specs.Trees.{Struct, NoField, Field, nodes, Part}
 use Rattle.frozen_model.specs.Values.{Value, Values, Record, NoValue, And, Of, OfEach}
 use Rattle.frozen_model.specs.Layouts.{Version, Layout, Layouts}

@@ -1,6 +1,6 @@
 -- The loop over nodes that sets bases.
-use Rattle.std.proofs.Common.{◌≡◌, ℕ, ℤ, zero, suc, ◌+◌, ◌<◌, ◌≤◌, List, [], ◌∷◌, ◌++◌, map, length, get_or}
-use Rattle.std.proofs.Common.{drop, Bool, true, false, pos, arith, refl, ap, sym, ◌∙◌, subst, drop-cons}
+use Rattle.std.proofs.Common.{◌≡◌, ℕ, ℤ, suc, ◌+◌, ◌<◌, List, [], ◌∷◌, ◌++◌, map, length, get_or}
+use Rattle.std.proofs.Common.{drop, true, false, pos, arith, refl, ap, sym, ◌∙◌, subst, drop-cons}
 use Rattle.std.proofs.Common.{append_assoc}
 use Rattle.std.proofs.lemmas.List.{append-nil, map-append}
 use Rattle.std.proofs.Math.Seq.{drop-length}
@@ -11,7 +11,7 @@ use Rattle.frozen_model.specs.Trees.{AllLeafwise, leaf, byte_range, item_range, 
 use Rattle.frozen_model.specs.Trees.{field}
 use Rattle.frozen_model.specs.Values.{InBits}
 use Rattle.frozen_model.specs.Holding.{Puts, AllPuts}
-use Rattle.layout_tree.specs.Listing.{Noted, AllNoted, Width, LeafWidths}
+use Rattle.layout_tree.specs.Listing.{Noted, AllNoted, LeafWidths}
 use Rattle.layout_tree.specs.Basing.{based_at, BaseAt, whole_at}
 use Rattle.value_bounds.specs.declared.bounds.Bounds.{Bounds}
 use Rattle.value_bounds.specs.Seeing.{numbers, all_numbers, bounds_of, base_by}

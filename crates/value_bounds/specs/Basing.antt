@@ -1,8 +1,8 @@
 -- A layout whose bases are the least numbers there.
-use Rattle.std.specs.Prelude.{◌≡◌, List, [], ◌∷◌, ℤ, pos}
+use Rattle.std.specs.Prelude.{List, [], ◌∷◌, ℤ, pos}
 use Rattle.std.specs.Int.{int_min}
 use Rattle.std.specs.List.{fold}
-use Rattle.frozen_model.specs.Trees.{Flag, Integer, Leaf, ByteRange, ItemRange, Optional, Struct, NoField}
+use Rattle.frozen_model.specs.Trees.{Integer, Leaf, ItemRange, Optional, Struct}
 use Rattle.frozen_model.specs.Trees.{Field}
 use Rattle.frozen_model.specs.Holding.{Puts, AllPuts}
 use Rattle.layout_tree.specs.Listing.{Noted, AllNoted}

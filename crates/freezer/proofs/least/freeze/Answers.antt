@@ -1,4 +1,4 @@
-use Rattle.std.proofs.Common.{◌≡◌, ◌+◌, length, drop, replicate, arith, ap, sym, ◌∙◌, subst, List, ℕ}
+use Rattle.std.proofs.Common.{length, drop, arith, ap, sym, subst, List, ℕ}
 use Rattle.std.proofs.lemmas.List.{length-replicate}
 use Rattle.frozen_model.specs.Packing.{Packs}
 use Rattle.block_region.specs.Space.{Space}

@@ -21,9 +21,10 @@ use Rattle.freezer.proofs.Left.{items_unwritten, item_ready, item_written, items
 use Rattle.freezer.proofs.Left.{field_ready, field_written, fields_written}
 use Rattle.freezer.proofs.Stores.{small}
 use Rattle.freezer.proofs.NoBits.{none_written}
-use Rattle.freezer.proofs.Arms.{flag_at, number_at, wrote_leaf, wrote_absent, present_at, items_at}
-use Rattle.freezer.proofs.Arms.{items_range, items_extent, items_ready, items_done, bytes_at, bytes_extent}
-use Rattle.freezer.proofs.Arms.{bytes_done, byte_is, RangeWrote, present_ready, present_done}
+use Rattle.value_bounds.proofs.Forms.{bytes_at, items_at, present_at}
+use Rattle.freezer.proofs.Arms.{flag_at, number_at, wrote_leaf, wrote_absent, items_range, items_extent}
+use Rattle.freezer.proofs.Arms.{items_ready, items_done, bytes_extent, bytes_done, byte_is, RangeWrote}
+use Rattle.freezer.proofs.Arms.{present_ready, present_done}
 use Rattle.freezer.proofs.write.+write.Goals as goal
 use Rattle.typed_tree.specs.Heights.{height}
 use Rattle.typed_tree.proofs.Forms.{height_fields, height_items, height_nth, items_form, items_kind, map_is}
@@ -415,12 +416,9 @@ write_part-returns-in_default t c =
     let r = c.requires.ready in
     let u = value_of_ref c.args.v in
     let bs = c.bytes-bytes.result.now in
-    let old = c.args.region.now in
-    let b = c.args.block.now in
-    let g = old.taken - b.start in
     let e = c.bytes-bytes.ensures in
-    let k = bytes_at l u bs g e r.form r.holds in
-    let h = c.in_default.ensures.enough.1 (omega (arith, r.room, bytes_extent l u bs g k e)) in
+    let k = bytes_at l u bs e r.form in
+    let h = c.in_default.ensures.enough.1 (omega (arith, r.room, bytes_extent l u bs k e)) in
     absurd cc
 
 pub write_part-returns-in-Some : goal.write_part-returns-in-Some
@@ -431,14 +429,13 @@ write_part-returns-in-Some t c =
     let bs = c.bytes-bytes.result.now in
     let old = c.args.region.now in
     let b = c.args.block.now in
-    let g = old.taken - b.start in
     let e = c.bytes-bytes.ensures in
-    let k = bytes_at l u bs g e r.form r.holds in
+    let k = bytes_at l u bs e r.form in
     let i = c.in-Some in
     let w = c.write_range in
-    bytes_done l u bs g k old c.take.new.self w.new.region c.copy.new.self b i.inner c.args.bit e
+    bytes_done l u bs k old c.take.new.self w.new.region c.copy.new.self b i.inner c.args.bit e
     i.ensures.block i.ensures.after w.ensures.taken w.ensures.length w.ensures.written
-    (omega (arith, r.room, bytes_extent l u bs g k e)) c.copy.ensures.after
+    (omega (arith, r.room, bytes_extent l u bs k e)) c.copy.ensures.after
 
 pub write_part-block_len-requires-clause-few : goal.write_part-block_len-requires-clause-few
 write_part-block_len-requires-clause-few t c =
@@ -446,12 +443,9 @@ write_part-block_len-requires-clause-few t c =
     let r = c.requires.ready in
     let u = value_of_ref c.args.v in
     let vs = items_of u in
-    let old = c.args.region.now in
-    let b = c.args.block.now in
-    let g = old.taken - b.start in
     let is = items_kind c.kind-kind.result u c.kind-kind.ensures.form c.in-List.is in
     let e = items_form u is in
-    let k = items_at l u vs g e r.form r.holds in
+    let k = items_at l u vs e r.form in
     omega (arith, k.few, c.len-n.ensures)
 
 pub write_part-returns-in_default-take : goal.write_part-returns-in_default-take
@@ -465,11 +459,11 @@ write_part-returns-in_default-take t c =
     let g = old.taken - b.start in
     let is = items_kind c.kind-kind.result u c.kind-kind.ensures.form c.in-List.is in
     let e = items_form u is in
-    let k = items_at l u vs g e r.form r.holds in
+    let k = items_at l u vs e r.form in
     let eb : c.block_len.result ≡ bytes_for (count vs * stride (item_of l)) = c.block_len.ensures
-    ∙ ap (λ z. bytes_for (c.len-n.result * z)) (sym (item_is l (items_range l vs g k).1))
+    ∙ ap (λ z. bytes_for (c.len-n.result * z)) (sym (item_is l (items_range l u vs g k e r.holds).1))
     ∙ ap (λ z. bytes_for (z * stride (item_of l))) c.len-n.ensures in
-    let h = c.in_default-take.ensures.enough.1 (omega (arith, r.room, items_extent l u vs g k e, eb)) in
+    let h = c.in_default-take.ensures.enough.1 (omega (arith, r.room, items_extent l u vs k e, eb)) in
     absurd cc
 
 pub write_part-write_range-requires-in-List-clause-range : goal.write_part-write_range-requires-in-List-clause-range
@@ -483,8 +477,8 @@ write_part-write_range-requires-in-List-clause-range t c =
     let g = old.taken - b.start in
     let is = items_kind c.kind-kind.result u c.kind-kind.ensures.form c.in-List.is in
     let e = items_form u is in
-    let k = items_at l u vs g e r.form r.holds in
-    (items_range l vs g k).0
+    let k = items_at l u vs e r.form in
+    (items_range l u vs g k e r.holds).0
 
 pub write_part-write_range-requires-in-List-clause-fits : goal.write_part-write_range-requires-in-List-clause-fits
 write_part-write_range-requires-in-List-clause-fits t c =
@@ -497,13 +491,13 @@ write_part-write_range-requires-in-List-clause-fits t c =
     let g = old.taken - b.start in
     let is = items_kind c.kind-kind.result u c.kind-kind.ensures.form c.in-List.is in
     let e = items_form u is in
-    let k = items_at l u vs g e r.form r.holds in
+    let k = items_at l u vs e r.form in
     let n = c.len-n.result in
     let start : g ≡ c.in-Some-take.inner.start - b.start = ap (λ z. z - b.start)
     (sym (ap (λ z. z.start) c.in-Some-take.ensures.block)) in
     subst (λ z. RangeFits (distance_width l) (count_width l) z (c.in-Some-take.inner.start - b.start))
     (sym c.len-n.ensures) (subst (λ z. RangeFits (distance_width l) (count_width l) (count vs) z) start
-    (items_range l vs g k).2)
+    (items_range l u vs g k e r.holds).2)
 
 pub write_part-write_items-requires : goal.write_part-write_items-requires
 write_part-write_items-requires t c =
@@ -516,9 +510,9 @@ write_part-write_items-requires t c =
     let g = old.taken - b.start in
     let is = items_kind c.kind-kind.result u c.kind-kind.ensures.form c.in-List.is in
     let e = items_form u is in
-    let k = items_at l u vs g e r.form r.holds in
+    let k = items_at l u vs e r.form in
     let eb : c.block_len.result ≡ bytes_for (count vs * stride (item_of l)) = c.block_len.ensures
-    ∙ ap (λ z. bytes_for (c.len-n.result * z)) (sym (item_is l (items_range l vs g k).1))
+    ∙ ap (λ z. bytes_for (c.len-n.result * z)) (sym (item_is l (items_range l u vs g k e r.holds).1))
     ∙ ap (λ z. bytes_for (z * stride (item_of l))) c.len-n.ensures in
     let i = c.in-Some-take in
     let w = c.write_range-in-List in (
@@ -528,11 +522,11 @@ write_part-write_items-requires t c =
         (
           c.requires.node,
           (
-            (items_range l vs g k).1,
+            (items_range l u vs g k e r.holds).1,
             (
               row_kind c.kind-kind.result u c.kind-kind.ensures.form c.in-List.is c.in_default-kind.not-Map,
-              items_ready l u vs g c.block_len.result k old c.take-in-List.new.self w.new.region i.inner e eb
-                  i.ensures.block i.ensures.after w.ensures.taken w.ensures.length r.room,
+              items_ready l u vs g c.block_len.result k old c.take-in-List.new.self w.new.region i.inner e
+                  r.holds eb i.ensures.block i.ensures.after w.ensures.taken w.ensures.length r.room,
             ),
           ),
         ),
@@ -550,9 +544,9 @@ write_part-write_pairs-requires t c =
     let g = old.taken - b.start in
     let is = items_kind c.kind-kind.result u c.kind-kind.ensures.form c.in-List.is in
     let e = items_form u is in
-    let k = items_at l u vs g e r.form r.holds in
+    let k = items_at l u vs e r.form in
     let eb : c.block_len.result ≡ bytes_for (count vs * stride (item_of l)) = c.block_len.ensures
-    ∙ ap (λ z. bytes_for (c.len-n.result * z)) (sym (item_is l (items_range l vs g k).1))
+    ∙ ap (λ z. bytes_for (c.len-n.result * z)) (sym (item_is l (items_range l u vs g k e r.holds).1))
     ∙ ap (λ z. bytes_for (z * stride (item_of l))) c.len-n.ensures in
     let i = c.in-Some-take in
     let w = c.write_range-in-List in (
@@ -562,12 +556,12 @@ write_part-write_pairs-requires t c =
         (
           c.requires.node,
           (
-            (items_range l vs g k).1,
+            (items_range l u vs g k e r.holds).1,
             (
               map_kind c.kind-kind.result u c.kind-kind.ensures.form c.in-Map.is,
               items_ready l u vs g
-                  c.block_len.result k old c.take-in-List.new.self w.new.region i.inner e eb i.ensures.block
-                  i.ensures.after
+                  c.block_len.result k old c.take-in-List.new.self w.new.region i.inner e r.holds eb
+                  i.ensures.block i.ensures.after
                   w.ensures.taken w.ensures.length r.room,
             ),
           ),
@@ -586,15 +580,15 @@ write_part-returns-in_default-kind t c =
     let g = old.taken - b.start in
     let is = items_kind c.kind-kind.result u c.kind-kind.ensures.form c.in-List.is in
     let e = items_form u is in
-    let k = items_at l u vs g e r.form r.holds in
+    let k = items_at l u vs e r.form in
     let eb : c.block_len.result ≡ bytes_for (count vs * stride (item_of l)) = c.block_len.ensures
-    ∙ ap (λ z. bytes_for (c.len-n.result * z)) (sym (item_is l (items_range l vs g k).1))
+    ∙ ap (λ z. bytes_for (c.len-n.result * z)) (sym (item_is l (items_range l u vs g k e r.holds).1))
     ∙ ap (λ z. bytes_for (z * stride (item_of l))) c.len-n.ensures in
     let i = c.in-Some-take in
     let w = c.write_range-in-List in
     let f = subst (λ z. RangeWrote l z c.take-in-List.new.self w.new.region b i.inner c.args.bit)
     c.len-n.ensures w.ensures.written in
-    items_done l u vs g c.block_len.result k old c.take-in-List.new.self w.new.region c.write_items.new.region
+    items_done l u vs c.block_len.result k old c.take-in-List.new.self w.new.region c.write_items.new.region
     b i.inner c.args.bit e eb i.ensures.block i.ensures.after w.ensures.taken w.ensures.length
     (omega (arith, r.taken)) f c.write_items.ensures
 
@@ -609,15 +603,15 @@ write_part-returns-in-Map t c =
     let g = old.taken - b.start in
     let is = items_kind c.kind-kind.result u c.kind-kind.ensures.form c.in-List.is in
     let e = items_form u is in
-    let k = items_at l u vs g e r.form r.holds in
+    let k = items_at l u vs e r.form in
     let eb : c.block_len.result ≡ bytes_for (count vs * stride (item_of l)) = c.block_len.ensures
-    ∙ ap (λ z. bytes_for (c.len-n.result * z)) (sym (item_is l (items_range l vs g k).1))
+    ∙ ap (λ z. bytes_for (c.len-n.result * z)) (sym (item_is l (items_range l u vs g k e r.holds).1))
     ∙ ap (λ z. bytes_for (z * stride (item_of l))) c.len-n.ensures in
     let i = c.in-Some-take in
     let w = c.write_range-in-List in
     let f = subst (λ z. RangeWrote l z c.take-in-List.new.self w.new.region b i.inner c.args.bit)
     c.len-n.ensures w.ensures.written in
-    items_done l u vs g c.block_len.result k old c.take-in-List.new.self w.new.region c.write_pairs.new.region
+    items_done l u vs c.block_len.result k old c.take-in-List.new.self w.new.region c.write_pairs.new.region
     b i.inner c.args.bit e eb i.ensures.block i.ensures.after w.ensures.taken w.ensures.length
     (omega (arith, r.taken)) f c.write_pairs.ensures
 
@@ -643,10 +637,9 @@ write_part-write_part-requires t c =
     let x = value_of_ref c.inner.result in
     let old = c.args.region.now in
     let b = c.args.block.now in
-    let g = old.taken - b.start in
     let e = c.inner.ensures in
-    let p = present_at l u x g e r.form r.holds in
-    let ch = inner_child (tree_of lay.nodes.items) (version_of lay.version) c.args.node p.w p.inner
+    let p = present_at l u x e r.form in
+    let ch = inner_child (tree_of lay.nodes.items) (version_of lay.version) c.args.node p.width p.inner
     c.requires.node p.is in
     let w = c.isset_bits-width in
     let q = c.put-in-Present in
@@ -672,10 +665,9 @@ write_part-returns-in-Present t c =
     let x = value_of_ref c.inner.result in
     let old = c.args.region.now in
     let b = c.args.block.now in
-    let g = old.taken - b.start in
     let e = c.inner.ensures in
-    let p = present_at l u x g e r.form r.holds in
-    let ch = inner_child (tree_of lay.nodes.items) (version_of lay.version) c.args.node p.w p.inner
+    let p = present_at l u x e r.form in
+    let ch = inner_child (tree_of lay.nodes.items) (version_of lay.version) c.args.node p.width p.inner
     c.requires.node p.is in
     let w = c.isset_bits-width in
     let q = c.put-in-Present in

@@ -18,7 +18,7 @@ use Rattle.measure_pass.specs.Spots.{Gathers, EachGathers}
 use Rattle.layout_tree.proofs.Left.{items_start, items_here, items_next, items_end, fields_more, fields_here}
 use Rattle.layout_tree.proofs.Left.{fields_next, fields_end, fields_over}
 use Rattle.measure_pass.proofs.Gathered.{item_gathered, items_gathered, fields_ungathered, field_gathered}
-use Rattle.value_bounds.proofs.Arms.{items_at, present_at}
+use Rattle.value_bounds.proofs.Forms.{items_at, items_held, present_at}
 use Rattle.measure_pass.proofs.Gathered.{fields_gathered, leaves_gathered}
 use Rattle.measure_pass.proofs.Gathered.{alone_gathered, alone_kind, bytes_gathered, range_gathered}
 use Rattle.measure_pass.proofs.Gathered.{present_gathered}
@@ -289,16 +289,16 @@ pub gather_part-gather_items-requires : goal.gather_part-gather_items-requires
 gather_part-gather_items-requires t c =
     let u = value_of_ref c.args.v in
     let is = items_kind c.kind-kind.result u c.kind-kind.ensures.form c.in-List.is in
-    let r = items_at (at c.args.layouts.now c.args.node) u (items_of u) (items_form u is)
-    c.requires.form in (
+    let a = at c.args.layouts.now c.args.node in
+    let r = items_held a (items_of u) (items_at a u (items_of u) (items_form u is) c.requires.form) in (
       omega (arith, c.decreases),
       (
         c.requires.node,
         (
-          r.holder,
+          r.0,
           (
             row_kind c.kind-kind.result u c.kind-kind.ensures.form c.in-List.is c.in_default.not-Map,
-            r.form,
+            r.1,
           ),
         ),
       ),
@@ -308,12 +308,12 @@ pub gather_part-gather_pairs-requires : goal.gather_part-gather_pairs-requires
 gather_part-gather_pairs-requires t c =
     let u = value_of_ref c.args.v in
     let is = items_kind c.kind-kind.result u c.kind-kind.ensures.form c.in-List.is in
-    let r = items_at (at c.args.layouts.now c.args.node) u (items_of u) (items_form u is)
-    c.requires.form in (
+    let a = at c.args.layouts.now c.args.node in
+    let r = items_held a (items_of u) (items_at a u (items_of u) (items_form u is) c.requires.form) in (
       omega (arith, c.decreases),
       (
         c.requires.node,
-        (r.holder, (map_kind c.kind-kind.result u c.kind-kind.ensures.form c.in-Map.is, r.form)),
+        (r.0, (map_kind c.kind-kind.result u c.kind-kind.ensures.form c.in-Map.is, r.1)),
       ),
     )
 

@@ -1,4 +1,4 @@
-use Rattle.std.proofs.Common.{◌≡◌, ℤ, ◌-ℤ◌, nat_abs, ap, sym, ◌∙◌, rules, w32, w64}
+use Rattle.std.proofs.Common.{◌-ℤ◌, nat_abs, ap, sym, ◌∙◌, rules, w32, w64}
 use Rattle.std.proofs.lemmas.Int.{to_z-of_z}
 use mir.Val.{SFits, to_z, of_z}
 use Rattle.frozen_model.specs.Bits.{need_unsigned, need_signed}

@@ -1,12 +1,12 @@
-use Rattle.std.proofs.Common.{◌≡◌, ◌≤◌, ◌+◌, arith, refl, ap, sym, ◌∙◌, subst}
-use Rattle.frozen_model.specs.Bits.{digits, need_unsigned}
+use Rattle.std.proofs.Common.{◌≡◌, ◌≤◌, arith, refl, ap, sym, subst}
+use Rattle.frozen_model.specs.Bits.{digits}
 use Rattle.frozen_model.specs.Layouts.{Layout}
 use Rattle.frozen_model.specs.Packing.{distance}
 use Rattle.layout_tree.specs.Nodes.{at, noted_in}
 use Rattle.layout_tree.specs.Reading.{IsRange}
 use Rattle.layout_tree.specs.Listing.{sub, tree_of, version_of}
 use Rattle.layout_tree.proofs.Children.{Child, node_small}
-use Rattle.measure_pass.specs.Growing.{Same, RangeGrew}
+use Rattle.measure_pass.specs.Growing.{Same}
 use Rattle.measure_pass.proofs.Arms.{distance_tip, count_tip, range_grew, distance_none, distance_some}
 use Rattle.measure_pass.proofs.Stays.{same_chain, same_child}
 use Rattle.measure_pass.proofs.leaf.note_range.Goals as goal

@@ -1,4 +1,4 @@
-use Rattle.std.proofs.Common.{◌≡◌, ◌+◌, ◌≤◌, arith, ◌∙◌}
+use Rattle.std.proofs.Common.{◌+◌, ◌≤◌, arith, ◌∙◌}
 use Rattle.std.proofs.lemmas.Bool.{not-true, not-false}
 use Rattle.frozen_model.specs.Holding.{puts_of}
 use Rattle.layout_tree.specs.Nodes.{layout_of}

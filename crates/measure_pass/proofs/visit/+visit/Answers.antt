@@ -1,4 +1,4 @@
-use Rattle.std.proofs.Common.{◌≡◌, ◌≤◌, ◌+◌, ◌-◌, ◌*◌, ◌<◌, arith, ap, sym, ◌∙◌, subst, refl, rules, w64}
+use Rattle.std.proofs.Common.{◌≡◌, ◌≤◌, ◌+◌, ◌*◌, ◌<◌, arith, ap, sym, ◌∙◌, subst, refl, rules, w64}
 use Rattle.std.proofs.lemmas.Int.{to_z-of_z}
 use mir.Val.{SFits}
 use Rattle.frozen_model.specs.Packing.{bytes_for}
@@ -21,8 +21,9 @@ use Rattle.layout_tree.proofs.Left.{fields_end, fields_over}
 use Rattle.measure_pass.proofs.Left.{items_unvisited, item_ready, item_visited, items_visited}
 use Rattle.measure_pass.proofs.Left.{fields_unvisited, field_ready, field_visited, fields_visited}
 use Rattle.measure_pass.proofs.Arms.{leaf_tip, flag_here, leaf_at, flag_needs, integer_at, visited_leaf}
-use Rattle.measure_pass.proofs.Arms.{visited_absent, present_at, visited_present, bytes_at, bytes_range}
-use Rattle.measure_pass.proofs.Arms.{visited_bytes, items_at, items_range, items_ready, visited_items}
+use Rattle.value_bounds.proofs.Forms.{bytes_at, items_at, present_at}
+use Rattle.measure_pass.proofs.Arms.{visited_absent, inner_ready, visited_present, bytes_range, bytes_fit}
+use Rattle.measure_pass.proofs.Arms.{visited_bytes, items_range, items_fit, items_ready, visited_items}
 use Rattle.measure_pass.proofs.Arms.{items_end_at, block_is}
 use Rattle.measure_pass.proofs.visit.+visit.Goals as goal
 use Rattle.typed_tree.specs.Heights.{height}
@@ -382,30 +383,32 @@ pub visit_part-note_range-requires-clause-range : goal.visit_part-note_range-req
 visit_part-note_range-requires-clause-range t c =
     let a = at c.args.layouts.now c.args.node in
     let bs = c.bytes.result.now in
-    bytes_range a bs c.args.from (bytes_at a (value_of_ref c.args.v) bs c.args.from c.bytes.ensures
-    c.requires.ready)
+    bytes_range a bs (bytes_at a (value_of_ref c.args.v) bs c.bytes.ensures c.requires.ready.form)
 
 pub visit_part-note_range-requires-clause-fits : goal.visit_part-note_range-requires-clause-fits
 visit_part-note_range-requires-clause-fits t c =
     let a = at c.args.layouts.now c.args.node in
+    let u = value_of_ref c.args.v in
     let bs = c.bytes.result.now in
-    (bytes_at a (value_of_ref c.args.v) bs c.args.from c.bytes.ensures c.requires.ready).item_range
+    let e = c.bytes.ensures in
+    bytes_fit a u bs c.args.from (bytes_at a u bs e c.requires.ready.form) e c.requires.ready
 
 pub visit_part-note_range-requires-in-List-clause-range : goal.visit_part-note_range-requires-in-List-clause-range
 visit_part-note_range-requires-in-List-clause-range t c =
     let a = at c.args.layouts.now c.args.node in
     let u = value_of_ref c.args.v in
     let is = items_kind c.kind-kind.result u c.kind-kind.ensures.form c.in-List.is in
-    (items_range a (items_of u) c.args.from (items_at a u (items_of u) c.args.from (items_form u is)
-    c.requires.ready)).0
+    (items_range a (items_of u) (items_at a u (items_of u) (items_form u is) c.requires.ready.form)).0
 
 pub visit_part-note_range-requires-in-List-clause-fits : goal.visit_part-note_range-requires-in-List-clause-fits
 visit_part-note_range-requires-in-List-clause-fits t c =
     let a = at c.args.layouts.now c.args.node in
     let u = value_of_ref c.args.v in
     let is = items_kind c.kind-kind.result u c.kind-kind.ensures.form c.in-List.is in
+    let e = items_form u is in
     subst (λ z. RangeFits 32 32 z c.args.from) (sym c.len-n.ensures)
-    (items_at a u (items_of u) c.args.from (items_form u is) c.requires.ready).item_range
+    (items_fit a u (items_of u) c.args.from (items_at a u (items_of u) e c.requires.ready.form) e
+    c.requires.ready)
 
 pub visit_part-block_len-block-requires-clause-node : goal.visit_part-block_len-block-requires-clause-node
 visit_part-block_len-block-requires-clause-node t c =
@@ -431,15 +434,14 @@ visit_part-block_len-block-requires-clause-range t c =
       is = refl;
     }) in
     subst (λ (x : Layout). IsRange x) (sym ch.is)
-    (items_range a (items_of u) c.args.from (items_at a u (items_of u) c.args.from (items_form u is)
-    c.requires.ready)).0
+    (items_range a (items_of u) (items_at a u (items_of u) (items_form u is) c.requires.ready.form)).0
 
 pub visit_part-block_len-block-requires-clause-few : goal.visit_part-block_len-block-requires-clause-few
 visit_part-block_len-block-requires-clause-few t c =
     let a = at c.args.layouts.now c.args.node in
     let u = value_of_ref c.args.v in
     let is = items_kind c.kind-kind.result u c.kind-kind.ensures.form c.in-List.is in
-    let k = items_at a u (items_of u) c.args.from (items_form u is) c.requires.ready in
+    let k = items_at a u (items_of u) (items_form u is) c.requires.ready.form in
     omega (arith, k.few, c.len-n.ensures)
 
 pub visit_part-visit_items-requires : goal.visit_part-visit_items-requires
@@ -450,7 +452,8 @@ visit_part-visit_items-requires t c =
     let u = value_of_ref c.args.v in
     let vs = items_of u in
     let is = items_kind c.kind-kind.result u c.kind-kind.ensures.form c.in-List.is in
-    let k = items_at a u vs c.args.from (items_form u is) c.requires.ready in
+    let e = items_form u is in
+    let k = items_at a u vs e c.requires.ready.form in
     let ch : Child (noted_in m) (version_of m.version) c.args.node a = same_child
     c.note_range-in-List.ensures.same (record {
       node = c.requires.node;
@@ -458,18 +461,18 @@ visit_part-visit_items-requires t c =
     }) in
     let eb : c.block_len-block.result
     ≡ bytes_for (count vs * stride (item_of a)) = block_is (at m c.args.node) a vs c.len-n.result
-    c.block_len-block.result ch.is (items_range a vs c.args.from k).1 c.block_len-block.ensures
+    c.block_len-block.result ch.is (items_range a vs k).1 c.block_len-block.ensures
     c.len-n.ensures in (
       omega (arith, c.decreases),
       (
         ch.node,
         (
-          subst (λ (x : Layout). IsHolder x) (sym ch.is) (items_range a vs c.args.from k).1,
+          subst (λ (x : Layout). IsHolder x) (sym ch.is) (items_range a vs k).1,
           (
             row_kind c.kind-kind.result u c.kind-kind.ensures.form c.in-List.is c.in_default.not-Map,
             subst
                 (λ (x : Layout). EachReady (item_of x) vs c.block_len-block.result) (sym ch.is)
-                (items_ready a vs c.args.from c.block_len-block.result k eb),
+                (items_ready a u vs c.args.from c.block_len-block.result k e c.requires.ready eb),
           ),
         ),
       ),
@@ -483,7 +486,8 @@ visit_part-visit_pairs-requires t c =
     let u = value_of_ref c.args.v in
     let vs = items_of u in
     let is = items_kind c.kind-kind.result u c.kind-kind.ensures.form c.in-List.is in
-    let k = items_at a u vs c.args.from (items_form u is) c.requires.ready in
+    let e = items_form u is in
+    let k = items_at a u vs e c.requires.ready.form in
     let ch : Child (noted_in m) (version_of m.version) c.args.node a = same_child
     c.note_range-in-List.ensures.same (record {
       node = c.requires.node;
@@ -491,18 +495,18 @@ visit_part-visit_pairs-requires t c =
     }) in
     let eb : c.block_len-block.result
     ≡ bytes_for (count vs * stride (item_of a)) = block_is (at m c.args.node) a vs c.len-n.result
-    c.block_len-block.result ch.is (items_range a vs c.args.from k).1 c.block_len-block.ensures
+    c.block_len-block.result ch.is (items_range a vs k).1 c.block_len-block.ensures
     c.len-n.ensures in (
       omega (arith, c.decreases),
       (
         ch.node,
         (
-          subst (λ (x : Layout). IsHolder x) (sym ch.is) (items_range a vs c.args.from k).1,
+          subst (λ (x : Layout). IsHolder x) (sym ch.is) (items_range a vs k).1,
           (
             map_kind c.kind-kind.result u c.kind-kind.ensures.form c.in-Map.is,
             subst
                 (λ (x : Layout). EachReady (item_of x) vs c.block_len-block.result) (sym ch.is)
-                (items_ready a vs c.args.from c.block_len-block.result k eb),
+                (items_ready a u vs c.args.from c.block_len-block.result k e c.requires.ready eb),
           ),
         ),
       ),
@@ -516,7 +520,8 @@ visit_part-overflow_add-result-in_default t c =
     let u = value_of_ref c.args.v in
     let vs = items_of u in
     let is = items_kind c.kind-kind.result u c.kind-kind.ensures.form c.in-List.is in
-    let k = items_at a u vs c.args.from (items_form u is) c.requires.ready in
+    let e = items_form u is in
+    let k = items_at a u vs e c.requires.ready.form in
     let ch : Child (noted_in m) (version_of m.version) c.args.node a = same_child
     c.note_range-in-List.ensures.same (record {
       node = c.requires.node;
@@ -524,15 +529,15 @@ visit_part-overflow_add-result-in_default t c =
     }) in
     let eb : c.block_len-block.result
     ≡ bytes_for (count vs * stride (item_of a)) = block_is (at m c.args.node) a vs c.len-n.result
-    c.block_len-block.result ch.is (items_range a vs c.args.from k).1 c.block_len-block.ensures
+    c.block_len-block.result ch.is (items_range a vs k).1 c.block_len-block.ensures
     c.len-n.ensures in
     let r = c.visit_items in
     let w = subst (λ (x : Layout). EachVisited (item_of x) vs m r.new.layouts (c.args.node + 3)
     c.block_len-block.result r.result) ch.is r.ensures in
     omega (
       arith,
-      items_end_at a vs c.args.from c.block_len-block.result r.result m r.new.layouts
-          (c.args.node + 3) k eb w,
+      items_end_at a u vs c.args.from c.block_len-block.result r.result m r.new.layouts
+          (c.args.node + 3) k e c.requires.ready eb w,
     )
 
 pub visit_part-overflow_add-result-in-Map : goal.visit_part-overflow_add-result-in-Map
@@ -543,7 +548,8 @@ visit_part-overflow_add-result-in-Map t c =
     let u = value_of_ref c.args.v in
     let vs = items_of u in
     let is = items_kind c.kind-kind.result u c.kind-kind.ensures.form c.in-List.is in
-    let k = items_at a u vs c.args.from (items_form u is) c.requires.ready in
+    let e = items_form u is in
+    let k = items_at a u vs e c.requires.ready.form in
     let ch : Child (noted_in m) (version_of m.version) c.args.node a = same_child
     c.note_range-in-List.ensures.same (record {
       node = c.requires.node;
@@ -551,15 +557,15 @@ visit_part-overflow_add-result-in-Map t c =
     }) in
     let eb : c.block_len-block.result
     ≡ bytes_for (count vs * stride (item_of a)) = block_is (at m c.args.node) a vs c.len-n.result
-    c.block_len-block.result ch.is (items_range a vs c.args.from k).1 c.block_len-block.ensures
+    c.block_len-block.result ch.is (items_range a vs k).1 c.block_len-block.ensures
     c.len-n.ensures in
     let r = c.visit_pairs in
     let w = subst (λ (x : Layout). EachVisited (item_of x) vs m r.new.layouts (c.args.node + 3)
     c.block_len-block.result r.result) ch.is r.ensures in
     omega (
       arith,
-      items_end_at a vs c.args.from c.block_len-block.result r.result m r.new.layouts
-          (c.args.node + 3) k eb w,
+      items_end_at a u vs c.args.from c.block_len-block.result r.result m r.new.layouts
+          (c.args.node + 3) k e c.requires.ready eb w,
     )
 
 pub visit_part-overflow_add-node : goal.visit_part-overflow_add-node
@@ -592,13 +598,17 @@ visit_part-visit_part-requires t c =
     let m = c.note-in-Present.new.self in
     let f = c.note-in-Present.ensures in
     let x = value_of_ref c.inner.result in
-    let p = present_at (at l c.args.node) (value_of_ref c.args.v) x c.args.from c.inner.ensures
-    c.requires.ready in
+    let u = value_of_ref c.args.v in
+    let p = present_at (at l c.args.node) u x c.inner.ensures c.requires.ready.form in
     let s : Same l m = record { layout = f.layout } in
     let ch : Child (noted_in m) (version_of m.version) (c.args.node + 2) p.inner = same_child s
-    (inner_child (noted_in l) (version_of l.version) c.args.node p.w p.inner c.requires.node p.is) in (
+    (inner_child (noted_in l) (version_of l.version) c.args.node p.width p.inner c.requires.node p.is) in (
       omega (arith, c.decreases, ap height c.inner.ensures),
-      (ch.node, subst (λ (z : Layout). Ready z x c.args.from) (sym ch.is) p.ready),
+      (
+        ch.node,
+        subst (λ (z : Layout). Ready z x c.args.from) (sym ch.is)
+            (inner_ready (at l c.args.node) u x c.args.from p c.inner.ensures c.requires.ready),
+      ),
     )
 
 pub visit_part-returns-in-Flag : goal.visit_part-returns-in-Flag
@@ -638,7 +648,7 @@ visit_part-returns-in-Text t c =
     let a = at l c.args.node in
     let u = value_of_ref c.args.v in
     let bs = c.bytes.result.now in
-    let k = bytes_at a u bs c.args.from c.bytes.ensures c.requires.ready in
+    let k = bytes_at a u bs c.bytes.ensures c.requires.ready.form in
     visited_bytes a u bs l c.note_range.new.layouts c.args.node c.args.from _ c.bytes.ensures k refl
     c.note_range.ensures
 
@@ -651,7 +661,7 @@ visit_part-returns-in_default t c =
     let vs = items_of u in
     let is = items_kind c.kind-kind.result u c.kind-kind.ensures.form c.in-List.is in
     let e = items_form u is in
-    let k = items_at a u vs c.args.from e c.requires.ready in
+    let k = items_at a u vs e c.requires.ready.form in
     let ch : Child (noted_in m) (version_of m.version) c.args.node a = same_child
     c.note_range-in-List.ensures.same (record {
       node = c.requires.node;
@@ -659,7 +669,7 @@ visit_part-returns-in_default t c =
     }) in
     let eb : c.block_len-block.result
     ≡ bytes_for (count vs * stride (item_of a)) = block_is (at m c.args.node) a vs c.len-n.result
-    c.block_len-block.result ch.is (items_range a vs c.args.from k).1 c.block_len-block.ensures
+    c.block_len-block.result ch.is (items_range a vs k).1 c.block_len-block.ensures
     c.len-n.ensures in
     let r = c.visit_items in
     let w = subst (λ (x : Layout). EachVisited (item_of x) vs m r.new.layouts (c.args.node + 3)
@@ -676,7 +686,7 @@ visit_part-returns-in-Map t c =
     let vs = items_of u in
     let is = items_kind c.kind-kind.result u c.kind-kind.ensures.form c.in-List.is in
     let e = items_form u is in
-    let k = items_at a u vs c.args.from e c.requires.ready in
+    let k = items_at a u vs e c.requires.ready.form in
     let ch : Child (noted_in m) (version_of m.version) c.args.node a = same_child
     c.note_range-in-List.ensures.same (record {
       node = c.requires.node;
@@ -684,7 +694,7 @@ visit_part-returns-in-Map t c =
     }) in
     let eb : c.block_len-block.result
     ≡ bytes_for (count vs * stride (item_of a)) = block_is (at m c.args.node) a vs c.len-n.result
-    c.block_len-block.result ch.is (items_range a vs c.args.from k).1 c.block_len-block.ensures
+    c.block_len-block.result ch.is (items_range a vs k).1 c.block_len-block.ensures
     c.len-n.ensures in
     let r = c.visit_pairs in
     let w = subst (λ (x : Layout). EachVisited (item_of x) vs m r.new.layouts (c.args.node + 3)
@@ -704,11 +714,11 @@ visit_part-returns-in-Present t c =
     let x = value_of_ref c.inner.result in
     let u = value_of_ref c.args.v in
     let r = c.visit_part in
-    let p = present_at (at l c.args.node) u x c.args.from c.inner.ensures c.requires.ready in
+    let p = present_at (at l c.args.node) u x c.inner.ensures c.requires.ready.form in
     let s : Same l m = record { layout = f.layout } in
     let ch : Child (noted_in m) (version_of m.version) (c.args.node + 2) p.inner = same_child s
-    (inner_child (noted_in l) (version_of l.version) c.args.node p.w p.inner c.requires.node p.is) in
+    (inner_child (noted_in l) (version_of l.version) c.args.node p.width p.inner c.requires.node p.is) in
     let w = subst (λ (z : Layout). Visited z x m r.new.layouts (c.args.node + 2) c.args.from r.result) ch.is
     r.ensures in
-    visited_present (at l c.args.node) u x p.w p.inner l m r.new.layouts c.args.node c.args.from r.result p.is
+    visited_present (at l c.args.node) u x p.width p.inner l m r.new.layouts c.args.node c.args.from r.result p.is
     c.inner.ensures f.noted s w

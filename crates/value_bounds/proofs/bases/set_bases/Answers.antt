@@ -1,13 +1,13 @@
-use Rattle.std.proofs.Common.{◌≡◌, ◌+◌, ◌<◌, true, length, drop, slice_index_or, arith, refl, ap, sym, ◌∙◌}
+use Rattle.std.proofs.Common.{◌≡◌, ◌+◌, ◌<◌, length, drop, slice_index_or, arith, refl, ap, sym, ◌∙◌}
 use Rattle.std.proofs.Common.{subst, rules, w64}
 use Rattle.std.proofs.lemmas.Int.{to_z-of_z}
 use mir.Val.{SFits}
 use Rattle.frozen_model.specs.Trees.{nodes}
 use Rattle.frozen_model.specs.Layouts.{Layout, Described, described}
 use Rattle.frozen_model.specs.Holding.{puts_of}
-use Rattle.layout_tree.specs.Listing.{Noted, tree_of, version_of}
+use Rattle.layout_tree.specs.Listing.{Noted, version_of}
 use Rattle.layout_tree.specs.Nodes.{layout_of, noted_in}
-use Rattle.layout_tree.specs.Basing.{based_at, BaseAt, whole_at}
+use Rattle.layout_tree.specs.Basing.{based_at, BaseAt}
 use Rattle.layout_tree.proofs.Based.{kept}
 use Rattle.typed_tree.specs.References.{value_of_ref}
 use Rattle.value_bounds.specs.Seeing.{base_by, no_bounds}

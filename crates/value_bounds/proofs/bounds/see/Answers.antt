@@ -1,4 +1,4 @@
-use Rattle.std.proofs.Common.{◌≡◌, [], ◌∷◌, slice_index_or, slice_set, pos, w64, to_z, of_z, ap, ◌∙◌, rules}
+use Rattle.std.proofs.Common.{◌≡◌, slice_index_or, slice_set, pos, w64, to_z, of_z, ap, ◌∙◌, rules}
 use Rattle.std.proofs.lemmas.Int.{to_z-of_z}
 use Rattle.std.specs.Int.{int_min, int_max}
 use mir.Val.{SFits}

@@ -1,4 +1,4 @@
-use Rattle.std.proofs.Common.{◌≡◌, ◌+◌, ◌-◌, ◌<◌, ◌^◌, [], ◌∷◌, pos, length, arith, ap, sym, ◌∙◌, subst, refl}
+use Rattle.std.proofs.Common.{◌≡◌, ◌+◌, ◌<◌, ◌^◌, [], ◌∷◌, pos, length, arith, ap, sym, ◌∙◌, subst, refl}
 use Rattle.std.proofs.Common.{w64}
 use Rattle.std.proofs.lemmas.Int.{to_z_pos}
 use Rattle.frozen_model.specs.Trees.{nodes}
@@ -20,8 +20,9 @@ use Rattle.layout_tree.proofs.Left.{items_start, items_here, items_next, items_e
 use Rattle.layout_tree.proofs.Left.{fields_next, fields_end, fields_over}
 use Rattle.value_bounds.proofs.Left.{items_unseen, item_seen, items_seen, fields_unseen, field_seen}
 use Rattle.value_bounds.proofs.Left.{fields_seen}
-use Rattle.value_bounds.proofs.Arms.{room_for, bytes_few, bytes_room, bytes_saw, items_at, items_saw}
-use Rattle.value_bounds.proofs.Arms.{absent_saw, present_room, present_at, present_saw}
+use Rattle.value_bounds.proofs.Forms.{bytes_at, items_at, items_held, present_at}
+use Rattle.value_bounds.proofs.Arms.{room_for, bytes_room, bytes_saw, items_room, items_saw}
+use Rattle.value_bounds.proofs.Arms.{absent_saw, present_room, present_saw}
 use Rattle.value_bounds.proofs.walk.+walk.Goals as goal
 
 pub see_fields-loop-child-init : goal.see_fields-loop-child-init
@@ -308,8 +309,8 @@ see_part-overflow_add-node t c =
 pub see_part-see-requires-in-Text : goal.see_part-see-requires-in-Text
 see_part-see-requires-in-Text t c =
     let l = c.args.layouts.now in
-    let r = bytes_room (at l c.args.node) (value_of_ref c.args.v) c.bytes.result.now c.requires.form
-    c.bytes.ensures in
+    let k = bytes_at (at l c.args.node) (value_of_ref c.args.v) c.bytes.result.now c.bytes.ensures c.requires.form in
+    let r = bytes_room (at l c.args.node) c.bytes.result.now k in
     omega (
       arith,
       c.requires.room,
@@ -337,7 +338,7 @@ see_part-see-requires-in-List t c =
       arith,
       c.requires.room,
       room_for (version_of l.version) (tree_of l.nodes.items) c.args.node 4
-          c.requires.node k.room,
+          c.requires.node (items_room (at l c.args.node) (items_of u) k),
     )
 
 pub see_part-overflow_add-node-in-Present : goal.see_part-overflow_add-node-in-Present
@@ -395,9 +396,9 @@ see_part-returns-in-Text t c =
     let a = at c.args.layouts.now c.args.node in
     let u = value_of_ref c.args.v in
     let bs = c.bytes.result.now in
-    let few = bytes_few a u bs c.requires.form c.bytes.ensures in
-    let small : length bs < 2 ^ 63 = omega (arith, few) in
-    bytes_saw a u bs c.args.bounds.now c.see-in-Text.new.bounds c.args.node c.requires.form c.bytes.ensures
+    let k = bytes_at a u bs c.bytes.ensures c.requires.form in
+    let small : length bs < 2 ^ 63 = omega (arith, k.few) in
+    bytes_saw a u bs c.args.bounds.now c.see-in-Text.new.bounds c.args.node k c.bytes.ensures
     (c.see-in-Text.ensures ∙ ap (λ z. seen_from c.args.bounds.now (c.args.node + 2) ((z ∷ []) ∷ []))
     (to_z_pos w64 (length bs) small))
 
@@ -413,7 +414,7 @@ see_part-returns-in-Map t c =
     ∙ ap (λ z. seen_from c.args.bounds.now (c.args.node + 2) ((z ∷ []) ∷ []))
     (to_z_pos w64 c.len.result small ∙ ap pos c.len.ensures) in
     items_saw a u vs c.args.bounds.now c.see-in-List.new.bounds c.see_pairs.new.bounds c.args.node all
-    k.holder mid c.see_pairs.ensures
+    (items_held a vs k).0 mid c.see_pairs.ensures
 
 pub see_part-returns-in_default : goal.see_part-returns-in_default
 see_part-returns-in_default t c =
@@ -427,7 +428,7 @@ see_part-returns-in_default t c =
     ∙ ap (λ z. seen_from c.args.bounds.now (c.args.node + 2) ((z ∷ []) ∷ []))
     (to_z_pos w64 c.len.result small ∙ ap pos c.len.ensures) in
     items_saw a u vs c.args.bounds.now c.see-in-List.new.bounds c.see_items.new.bounds c.args.node all
-    k.holder mid c.see_items.ensures
+    (items_held a vs k).0 mid c.see_items.ensures
 
 pub see_part-returns-in-Absent : goal.see_part-returns-in-Absent
 see_part-returns-in-Absent t c = absent_saw (at c.args.layouts.now c.args.node) (value_of_ref c.args.v)

@@ -1,28 +1,24 @@
 -- What the walk accepts is a layout that may stand there, which the layouts say.
-use Rattle.std.proofs.Common.{◌≡◌, ℕ, zero, suc, ◌+◌, ◌<◌, ◌≤◌, ◌^◌, ℤ, pos, negsuc, Bool, true, false, cond, if◌then◌else◌, List, [], ◌∷◌, ◌++◌, Option, Some, None, Result, Ok, Err, arith, refl, ap, sym, ◌∙◌, subst, map, length}
-use Rattle.std.specs.Prelude.{neg_ℤ, nat_abs, nat_le, nat_lt, ◌&&◌, int_lt, find}
+use Rattle.std.proofs.Common.{◌≡◌, ℕ, zero, suc, ◌+◌, ◌<◌, ◌≤◌, ◌^◌, ℤ, pos, negsuc, Bool, true, false, cond, if◌then◌else◌, List, [], ◌∷◌, Option, Some, None, Result, Ok, Err, arith, refl, ap, sym, ◌∙◌, subst, map, length}
+use Rattle.std.specs.Prelude.{neg_ℤ, nat_le, nat_lt, ◌&&◌, find}
 use Rattle.std.specs.Ordering.{int_eq}
 use Rattle.std.specs.Str.{bytes_eq}
 use Rattle.std.proofs.lemmas.Bool.{and_parts, leb-true, ltb-true}
-use Rattle.std.proofs.lemmas.Int.{ints}
-use Rattle.std.proofs.lemmas.List.{append-nil, map-append, length-map}
 use Rattle.std.proofs.lemmas.Slice.Eq.{bytes_eq-Decides}
-use Rattle.frozen_model.specs.Trees.{Whole, I8, I16, I32, I64, LeafKind, Flag, Integer, ByteKind, Text, Binary, AList, ASet, AMap, Holder, Leaf, ByteRange, ItemRange, Optional, Struct, NoField, Field, nodes, nodes_all, levels, levels_all, greatest, greatest_bits, greatest_bits_all, Rising, ids_of, IsFormed, AllFormed, IsNarrow, AllNarrow, IsKey, IsPlain, IsItem, value_bits}
+use Rattle.frozen_model.specs.Trees.{Whole, I8, I16, I32, I64, LeafKind, Flag, Integer, AList, ASet, AMap, Holder, Leaf, ByteRange, ItemRange, Optional, Struct, levels, greatest, IsKey, IsPlain, IsItem, value_bits}
 use Rattle.frozen_model.specs.Values.{Values, InBits}
-use Rattle.frozen_model.specs.Layouts.{Version, Version1, Version2, Coded, width, Unsigned, TwosComplement, FromBase, IsCoded, flag_coded, signed_coded, based_coded, Layout, Layouts, OfVersion, AllOfVersion, Legal, AllLegal, in_range}
-use Rattle.layout_tree.specs.declared.node.NodeSpec.{NodeSpec}
+use Rattle.frozen_model.specs.Layouts.{Version, Version1, Version2, Coded, width, Unsigned, TwosComplement, FromBase, IsCoded, flag_coded, signed_coded, based_coded, Layout, in_range}
 use Rattle.layout_tree.specs.declared.node.Kind.{Kind}
 use Rattle.layout_tree.specs.declared.node.Kind.TheVariants as kinds
-use Rattle.layout_tree.specs.Listing.{inline, inline_all, kind_of, kind_of_bytes, kind_of_holder, item_struct, spec, nodes_of, nodes_of_all}
-use Rattle.layout_tree.specs.Given.{shown, noted_from, all_noted_from}
+use Rattle.layout_tree.specs.Listing.{kind_of, spec}
+use Rattle.layout_tree.specs.Given.{shown}
 use Rattle.layout_tree.specs.Reading.{base_of}
-use Rattle.layout_tree.proofs.Place.{length_nodes}
 use Rattle.layout_schema.specs.Schemas.{type_name}
-use Rattle.layout_schema.specs.Shapes.{Child, Entry, entry_of, Place, AtRoot, InStruct, InList, InSet, InMap, AtFirst, AtValue, AtIsset, AtSize, may_stand, place_of, is_inline, deeper, kind_named, is_id, are_ids, are_fields, fields_fit, greatest_of, is_width, base_fits, At, may_enter, is_named, Walked, and_then, nothing, in_front, walk_children, done, entered, found, walk_part}
-use Rattle.layout_schema.proofs.Climbing.{Climbs, below_is_less}
-use Rattle.layout_schema.proofs.Entries.{int_is, child_of, node_entry, HasSize, two_children, three_children, field_children, Has, HasAll}
-use Rattle.layout_schema.proofs.Stands.{struct_at, kind_here, IsPairAt, Stands, depth, tree_walked, fields_walked, node_at, size_walked, at_node, item_place, struct_of_item}
-use Rattle.layout_schema.proofs.Walks.{offset_at, taken, same_walked, if_true, if_false, StructKind, struct_kind}
+use Rattle.layout_schema.specs.Shapes.{Child, Entry, entry_of, Place, AtRoot, InStruct, InList, InSet, InMap, AtFirst, AtValue, AtIsset, AtSize, may_stand, place_of, deeper, kind_named, are_fields, fields_fit, greatest_of, is_width, base_fits, At, may_enter, is_named, Walked, and_then, nothing, in_front, walk_children, done, entered, found, walk_part}
+use Rattle.layout_schema.proofs.Climbing.{Climbs}
+use Rattle.layout_schema.proofs.Listed.{int_is, child_of, node_entry, HasSize, Has}
+use Rattle.layout_schema.proofs.Stands.{struct_at, kind_here, IsPairAt, Stands, depth, tree_walked, node_at, size_walked, at_node, item_place}
+use Rattle.layout_schema.proofs.Walks.{offset_at, taken, same_walked}
 
 -- ---- answers
 

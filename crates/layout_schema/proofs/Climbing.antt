@@ -1,11 +1,11 @@
 -- The children of a node stand by rising field.
-use Rattle.std.proofs.Common.{◌≡◌, ◌⊎◌, inl, inr, ℕ, zero, suc, ◌+◌, ◌<◌, ◌≤◌, ℤ, pos, Bool, true, false, ◌==◌, if◌then◌else◌, List, [], ◌∷◌, ◌++◌, Option, Some, None, arith, refl, ap, sym, ◌∙◌, subst, map, drop, length, length-append, append_assoc}
+use Rattle.std.proofs.Common.{◌≡◌, ◌⊎◌, inl, inr, ℕ, suc, ◌+◌, ◌<◌, ℤ, pos, Bool, true, false, ◌==◌, if◌then◌else◌, List, [], ◌∷◌, ◌++◌, Option, Some, None, arith, refl, ap, sym, ◌∙◌, subst, map, drop, length, length-append, append_assoc}
 use Rattle.std.specs.Prelude.{int_lt, option_map}
 use Rattle.std.proofs.lemmas.Int.{ints}
 use Rattle.std.proofs.lemmas.List.{append-nil, map-append, length-map}
 use Rattle.std.proofs.Math.Seq.{drop-append_seam}
 use Rattle.frozen_model.specs.Trees.{AMap, Leaf, ByteRange, ItemRange, Optional, Struct, NoField, Field, nodes, IsFormed, AllFormed, Rising, ids_of, Part, itself, in_item, in_optional, in_struct, PartAll, in_first, in_later}
-use Rattle.frozen_model.specs.Values.{Values, And, Rises}
+use Rattle.frozen_model.specs.Values.{And, Rises}
 use Rattle.typed_tree.specs.Spots.{pair}
 use Rattle.layout_tree.specs.declared.node.NodeSpec.{NodeSpec}
 use Rattle.layout_tree.specs.declared.node.Kind.{Kind}

@@ -3,11 +3,10 @@ use Rattle.std.proofs.Common.{◌≡◌, ℕ, ℤ, pos, List, [], Bool, true, fa
 use Rattle.std.specs.Str.{IsUtf8}
 use Rattle.std.specs.Ordering.{int_eq}
 use Rattle.frozen_model.specs.Trees.{Struct, NoField}
-use Rattle.frozen_model.specs.Values.{Value, Of, OfEach}
-use Rattle.frozen_model.specs.Layouts.{Version, Version1, Version2, Described, described, IsDescribed, Layout, IsLayout, MayRelax}
+use Rattle.frozen_model.specs.Values.{Value, OfEach}
+use Rattle.frozen_model.specs.Layouts.{Version, Version1, Version2, Described, described, Layout, IsLayout, MayRelax}
 use Rattle.compact_wire.specs.Node.{Node}
 use Rattle.compact_wire.specs.Spells.{SpellsWire}
-use Rattle.type_kinds.specs.KindsOf.{kinds_of}
 use Rattle.typed_reading.specs.declared.fault.Found.{Found}
 use Rattle.typed_reading.specs.Faults.{faults, least}
 use Rattle.typed_reading.specs.Meaning.{meaning, Typed}
@@ -15,15 +14,14 @@ use Rattle.typed_reading.specs.Laws.{TypedIsValue}
 use Rattle.typed_reading.proofs.LeastLaws.{least_none}
 use Rattle.layout_tree.specs.declared.node.NodeSpec.{NodeSpec}
 use Rattle.layout_tree.specs.Listing.{layout_in, tree_of, version_number}
-use Rattle.layout_tree.specs.Given.{shown_nodes, noted_from}
 use Rattle.layout_schema.specs.declared.fault.SchemaFault.{SchemaFault}
 use Rattle.layout_schema.specs.declared.fault.SchemaFault.TheVariants as fault
-use Rattle.layout_schema.specs.Schemas.{schema_type, layouts_of, schema_with, schema_of}
+use Rattle.layout_schema.specs.Schemas.{schema_type, schema_with, schema_of}
 use Rattle.layout_schema.specs.Shapes.{relaxes_in, version_in, layouts_in as rows_in, shape_in}
 use Rattle.layout_schema.specs.Answers.{IsRelaxedAs, SchemaBytes, with_fields, with_shape, with_version, schema_in, IsSaid}
-use Rattle.layout_schema.proofs.Entries.{int_is}
-use Rattle.layout_schema.proofs.OwnSchema.{keyed, layout_kinds, schema_kinds, schema_accepted, schema_short, schema_is_value}
-use Rattle.layout_schema.proofs.Shape.{listed_again, shape_complete, OwnRows, Parts, parts, Said, shape_sound}
+use Rattle.layout_schema.proofs.Listed.{int_is}
+use Rattle.layout_schema.proofs.OwnSchema.{keyed, layout_kinds, schema_accepted, schema_short, schema_is_value}
+use Rattle.layout_schema.proofs.Shape.{listed_again, shape_complete, OwnRows, parts, shape_sound}
 use Rattle.layout_schema.proofs.Versions.{schema_weaker, versions_agree, relaxes_agree}
 
 -- ---- a schema is said
@@ -32,18 +30,18 @@ none_least : (fs : List Found) → fs ≡ [] → least fs ≡ None
 none_least fs e = ap least e
 
 -- what a tree with this relaxTypeChecks says whose version is 2
-abbrev second : Node → Bool → Result Described SchemaFault
+abbrev pub second : Node → Bool → Result Described SchemaFault
 second w r = with_fields (least (faults w (schema_type Version2) 0)) (with_shape Version2 r (shape_in (meaning w (schema_type Version2))))
 
 -- what it says whose version z is not 1
-abbrev second_or : ℤ → Node → Bool → Result Described SchemaFault
+abbrev pub second_or : ℤ → Node → Bool → Result Described SchemaFault
 second_or z w r = if int_eq z (pos 2) then second w r else Err (fault.Version z)
 
 -- what a tree says whose Schema of version 1 is s, by its version
-by_version : (w : Node) (s : Value) → with_version w s ≡ (if int_eq (version_in s) (pos 1) then with_shape Version1 false (shape_in s) else second_or (version_in s) w (relaxes_in s))
+pub by_version : (w : Node) (s : Value) → with_version w s ≡ (if int_eq (version_in s) (pos 1) then with_shape Version1 false (shape_in s) else second_or (version_in s) w (relaxes_in s))
 by_version w s = refl
 
-second_version : (w : Node) (s : Value) → version_in s ≡ pos 2 → with_version w s ≡ second w (relaxes_in s)
+pub second_version : (w : Node) (s : Value) → version_in s ≡ pos 2 → with_version w s ≡ second w (relaxes_in s)
 second_version w s e = by_version w s ∙ ap (λ z. if int_eq z (pos 1) then with_shape Version1 false (shape_in s) else second_or z w (relaxes_in s)) e
 
 module _ (w : Node) (relaxes : Bool) (l : Layout) where
@@ -77,7 +75,7 @@ schema_said b d h = (h.tree, h.spelled, said_by h.tree h.relaxes d.version d.rel
 
 -- ---- what is said is a schema
 
-own_rows : (v : Version) → OwnRows v
+pub own_rows : (v : Version) → OwnRows v
 own_rows Version1 l h =
     let d = described Version1 false l in
     let p = parts Version1 (schema_of d) (schema_is_value d (record { relaxing = refl; layout = h })) in

@@ -1,9 +1,8 @@
 -- The nodes of a layout within the limits fit the fields of a schema: their bits, fields, offsets and bases are in range.
-use Rattle.std.proofs.Common.{◌≡◌, ℕ, zero, suc, ◌+◌, ◌<◌, ◌≤◌, ◌^◌, ℤ, pos, negsuc, Bool, true, false, if◌then◌else◌, List, [], ◌∷◌, ◌++◌, arith, refl, ap, sym, subst, map}
-use Rattle.std.specs.Prelude.{neg_ℤ}
-use Rattle.frozen_model.specs.Trees.{Whole, I8, I16, I32, I64, LeafKind, Flag, Integer, Holder, AList, ASet, AMap, Leaf, ByteRange, ItemRange, Optional, Struct, NoField, Field, nodes, nodes_all, greatest_bits, greatest_bits_all, IsNarrow, AllNarrow, IsFormed, AllFormed, Rising, ids_of, value_bits}
+use Rattle.std.proofs.Common.{ℕ, suc, ◌+◌, ◌≤◌, ℤ, pos, negsuc, Bool, true, false, if◌then◌else◌, List, [], ◌∷◌, ◌++◌, arith, map}
+use Rattle.frozen_model.specs.Trees.{Whole, I8, I16, I32, I64, LeafKind, Integer, Leaf, ByteRange, ItemRange, Optional, Struct, NoField, Field, nodes, nodes_all, greatest_bits, greatest_bits_all, IsNarrow, AllNarrow, IsFormed, AllFormed, Rising, ids_of, value_bits}
 use Rattle.frozen_model.specs.Values.{InBits}
-use Rattle.frozen_model.specs.Layouts.{Version, Coded, width, IsCoded, flag_coded, signed_coded, based_coded, Layout, Layouts, OfVersion, AllOfVersion, Legal, AllLegal}
+use Rattle.frozen_model.specs.Layouts.{Version, Coded, IsCoded, flag_coded, signed_coded, based_coded, Layout, Layouts, OfVersion, AllOfVersion, Legal, AllLegal}
 use Rattle.frozen_laws.proofs.Limits.{greatest_small}
 use Rattle.layout_tree.specs.declared.node.NodeSpec.{NodeSpec}
 use Rattle.layout_tree.specs.declared.node.Kind.{Kind}

@@ -5,7 +5,7 @@ pub mod Spelled
 pub mod Fitting
 pub mod Climbing
 pub mod OwnSchema
-pub mod Entries
+pub mod Listed
 pub mod Stands
 pub mod Walks
 pub mod Accepted
@@ -14,4 +14,10 @@ pub mod Rows
 pub mod Shape
 pub mod Versions
 pub mod Exact
+pub mod SchemaText
+pub mod ReadEntries
+pub mod ReadFields
+pub mod ReadWalk
+pub mod ReadShape
+pub mod ReadSchema
 mod WorkedRows

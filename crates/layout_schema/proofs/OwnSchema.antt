@@ -5,8 +5,8 @@ use Rattle.std.proofs.lemmas.List.{drop-drop, length-map}
 use Rattle.std.proofs.lemmas.Str.{IsUtf8-from_ascii}
 use Rattle.idl_profile.specs.declared.kinds.TypeKind.TheVariants as types
 use Rattle.idl_profile.specs.Types.{kind_of}
-use Rattle.frozen_model.specs.Trees.{I16, LeafKind, Integer, Text, AMap, KindTree, Leaf, ByteRange, ItemRange, Optional, Struct, NoField, Field, nodes, IsFormed, IsKindTree, Alike, AllLeafwise, leaf, byte_range, item_range, optional, struct, no_field, field}
-use Rattle.frozen_model.specs.Values.{Value, Values, Bytes, And, InBits, Of, one, bytes, items, record_of, OfEach, none, more, part, no_part, Rises, count}
+use Rattle.frozen_model.specs.Trees.{I16, LeafKind, Integer, Text, AMap, KindTree, Leaf, ByteRange, ItemRange, Optional, Struct, NoField, Field, nodes, IsFormed, Alike, AllLeafwise, leaf, byte_range, item_range, optional, struct, no_field, field}
+use Rattle.frozen_model.specs.Values.{Values, Bytes, And, InBits, Of, one, bytes, items, record_of, OfEach, none, more, part, no_part, Rises, count}
 use Rattle.frozen_model.specs.Layouts.{Version, Version1, Version2, Coded, Layout, Layouts, Described, IsDescribed}
 use Rattle.frozen_laws.proofs.SameKinds.{kind_tree_along}
 use Rattle.typed_tree.specs.Spots.{pair}
@@ -20,7 +20,7 @@ use Rattle.layout_tree.specs.Listing.{Noted, LeafWidths, Width, all_nodes, versi
 use Rattle.layout_tree.specs.Given.{shown, shown_nodes, noted_from, all_noted_from}
 use Rattle.layout_tree.proofs.Taken.{few_given}
 use Rattle.layout_tree.proofs.Place.{length_nodes}
-use Rattle.layout_schema.specs.Schemas.{field_type, layout_type, schema_type, type_name, number, child_value, children_of, layout_of_node, layouts_of, schema_with, schema_of}
+use Rattle.layout_schema.specs.Schemas.{field_type, layout_type, schema_type, type_name, number, child_value, children_of, layout_of_node, layouts_of, schema_of}
 use Rattle.layout_schema.proofs.Places.{few_children}
 use Rattle.layout_schema.proofs.Spelled.{layouts_counted}
 use Rattle.layout_schema.proofs.Fitting.{NodeFits, AllFit, fit_shown, layout_fits}

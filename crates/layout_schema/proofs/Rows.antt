@@ -1,11 +1,11 @@
 -- The rows of a schema: what a value of its type has beside what the layouts say, and that what they say determines them.
-use Rattle.std.proofs.Common.{◌≡◌, ◌⊎◌, inl, inr, ℕ, zero, suc, ◌+◌, ◌-◌, ◌<◌, ◌≤◌, ℤ, pos, negsuc, Bool, true, false, if◌then◌else◌, List, [], ◌∷◌, ◌++◌, Option, Some, None, arith, refl, ap, sym, ◌∙◌, subst, map, length}
-use Rattle.std.specs.Prelude.{int_lt, option_map, nat_lt, nat_abs}
+use Rattle.std.proofs.Common.{◌≡◌, inl, inr, ℕ, zero, suc, ◌+◌, ◌-◌, ◌<◌, ◌≤◌, ℤ, pos, negsuc, Bool, true, false, if◌then◌else◌, List, [], ◌∷◌, Option, Some, None, arith, refl, ap, sym, ◌∙◌, subst, map, length}
+use Rattle.std.specs.Prelude.{int_lt, option_map}
 use Rattle.std.specs.Ordering.{int_eq}
 use Rattle.std.proofs.lemmas.Bool.{cases_order, cases_lt, lt-ltb, ltb-true}
 use Rattle.std.proofs.lemmas.Int.{ints}
-use Rattle.frozen_model.specs.Trees.{I16, I32, I64, Whole, Integer, Text, AMap, KindTree, Leaf, ByteRange, ItemRange, Optional, Struct, NoField, Field, nodes, nodes_all}
-use Rattle.frozen_model.specs.Values.{Value, Values, NoValue, And, Atom, Truth, Number, One, Bytes, Items, Record, IsOf, Of, one, bytes, items, record_of, OfEach, none, more, part as part_of, no_part, Rises, key_of, key_less}
+use Rattle.frozen_model.specs.Trees.{I16, I32, I64, Whole, Integer, AMap, Leaf, ByteRange, ItemRange, Optional, Struct, NoField, Field, nodes, nodes_all}
+use Rattle.frozen_model.specs.Values.{Value, Values, NoValue, And, Atom, Truth, Number, One, Bytes, Items, Record, IsOf, Of, one, bytes, items, record_of, OfEach, more, part as part_of, no_part, Rises, key_of, key_less}
 use Rattle.frozen_model.specs.Layouts.{Version, Version1, Version2, Layout, Layouts}
 use Rattle.typed_tree.specs.Spots.{pair}
 use Rattle.layout_tree.specs.declared.node.NodeSpec.{NodeSpec}
@@ -14,10 +14,10 @@ use Rattle.layout_tree.specs.declared.node.Kind.TheVariants as kinds
 use Rattle.layout_tree.specs.Listing.{item_struct}
 use Rattle.layout_tree.specs.Given.{noted_from, all_noted_from}
 use Rattle.compact_codec.specs.Wire.{number_in}
-use Rattle.layout_schema.specs.Schemas.{number, children_of, layout_of_node, layouts_of}
+use Rattle.layout_schema.specs.Schemas.{number, layouts_of}
 use Rattle.layout_schema.specs.Shapes.{part, Child, Entry, child_in, children_in, entry_in, entry_of, is_walked, unwalked}
 use Rattle.layout_schema.proofs.Climbing.{Climbs}
-use Rattle.layout_schema.proofs.Entries.{int_same, int_is, int_other, Has, HasAll}
+use Rattle.layout_schema.proofs.Listed.{int_same, int_other, Has, HasAll}
 use Rattle.layout_schema.proofs.Accepted.{Proper, AllProper}
 use Rattle.layout_schema.proofs.OwnSchema.{keyed, child_kinds, layout_kinds}
 

@@ -9,7 +9,7 @@ use Rattle.frozen_model.specs.Layouts.{Version, Layout, OfVersion, IsLayout}
 use Rattle.layout_tree.specs.declared.node.NodeSpec.{NodeSpec}
 use Rattle.layout_tree.specs.declared.node.Kind.{Kind}
 use Rattle.layout_tree.specs.declared.node.Kind.TheVariants as kinds
-use Rattle.layout_tree.specs.Listing.{coded, layout_in, Entry, leaf_of, built, kids, past_kids, entries, first_tree, tree_of, all_nodes, version_number}
+use Rattle.layout_tree.specs.Listing.{layout_in, Entry, leaf_of, built, kids, past_kids, entries, first_tree, tree_of, all_nodes, version_number}
 use Rattle.layout_tree.specs.Given.{shown_wide, shown, shown_nodes, noted_from}
 use Rattle.layout_tree.proofs.Decode.{tree_again}
 use Rattle.layout_tree.proofs.Place.{length_nodes}
@@ -17,7 +17,7 @@ use Rattle.layout_tree.proofs.Taken.{layout_from, nodes_from}
 use Rattle.compact_codec.specs.Wire.{flag_in}
 use Rattle.layout_schema.specs.Schemas.{number, layouts_of, schema_with}
 use Rattle.layout_schema.specs.Shapes.{relaxes_in, version_in, layouts_in as rows_in, root_in, AtRoot, may_stand, Walked, walk_part, unwalked, no_other, all_walked, at_root, shape_in}
-use Rattle.layout_schema.proofs.Entries.{int_is, has_own}
+use Rattle.layout_schema.proofs.Listed.{int_is, has_own}
 use Rattle.layout_schema.proofs.Stands.{kind_here, Stands, tree_walked}
 use Rattle.layout_schema.proofs.Walks.{walks}
 use Rattle.layout_schema.proofs.Sound.{sound}

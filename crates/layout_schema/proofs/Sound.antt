@@ -1,25 +1,25 @@
 -- Whatever the walk accepts is a layout that may stand there.
-use Rattle.std.proofs.Common.{◌≡◌, ℕ, zero, suc, ◌+◌, ◌<◌, ◌≤◌, ℤ, pos, negsuc, Bool, true, false, if◌then◌else◌, List, [], ◌∷◌, ◌++◌, Option, Some, None, Result, Ok, Err, arith, refl, ap, sym, ◌∙◌, subst, map, length}
-use Rattle.std.specs.Prelude.{max, neg_ℤ, nat_le, nat_lt, ◌&&◌, int_lt}
+use Rattle.std.proofs.Common.{◌≡◌, ℕ, zero, suc, ◌+◌, ◌<◌, ◌≤◌, ℤ, pos, negsuc, true, List, [], ◌∷◌, ◌++◌, Some, None, Ok, arith, refl, ap, sym, ◌∙◌, subst, map, length}
+use Rattle.std.specs.Prelude.{max, nat_le, nat_lt, int_lt}
 use Rattle.std.specs.Ordering.{int_eq}
 use Rattle.std.proofs.lemmas.Bool.{and_parts, leb-true, ltb-true}
 use Rattle.std.proofs.lemmas.Int.{ints}
 use Rattle.std.proofs.lemmas.List.{append-nil, map-append, length-map}
-use Rattle.frozen_model.specs.Trees.{I8, I16, I32, I64, Integer, ByteKind, Text, Binary, AList, ASet, AMap, Holder, Leaf, ByteRange, ItemRange, Optional, Struct, NoField, Field, nodes, nodes_all, levels, levels_all, greatest_bits, greatest_bits_all, Rising, ids_of, IsFormed, AllFormed, IsNarrow, AllNarrow, IsItem}
+use Rattle.frozen_model.specs.Trees.{I8, I16, I32, I64, ByteKind, Text, Binary, AList, ASet, AMap, Holder, ByteRange, ItemRange, Optional, Struct, NoField, Field, nodes, nodes_all, levels, levels_all, greatest_bits, greatest_bits_all, Rising, ids_of, AllFormed, AllNarrow, IsItem}
 use Rattle.frozen_model.specs.Values.{Values}
-use Rattle.frozen_model.specs.Layouts.{Version, Layout, Layouts, OfVersion, AllOfVersion, Legal, AllLegal}
+use Rattle.frozen_model.specs.Layouts.{Version, Layout, Layouts, AllOfVersion, AllLegal}
 use Rattle.layout_tree.specs.declared.node.NodeSpec.{NodeSpec}
 use Rattle.layout_tree.specs.declared.node.Kind.{Kind}
 use Rattle.layout_tree.specs.declared.node.Kind.TheVariants as kinds
 use Rattle.layout_tree.specs.Listing.{inline, inline_all, kind_of_bytes, kind_of_holder, item_struct, spec, nodes_of, nodes_of_all}
 use Rattle.layout_tree.specs.Given.{shown, noted_from, all_noted_from}
 use Rattle.layout_tree.proofs.Place.{length_nodes}
-use Rattle.layout_schema.specs.Shapes.{Child, Entry, entry_of, Place, AtRoot, InStruct, InList, InSet, InMap, AtFirst, AtValue, AtIsset, AtSize, may_stand, place_of, is_inline, deeper, is_id, are_ids, are_fields, fields_fit, greatest_of, base_fits, At, Walked, nothing, in_front, walk_children, walk_part}
+use Rattle.layout_schema.specs.Shapes.{Child, Place, AtRoot, InStruct, InList, InSet, InMap, AtFirst, AtValue, AtIsset, AtSize, may_stand, is_inline, deeper, is_id, are_ids, are_fields, fields_fit, base_fits, Walked, nothing, in_front, walk_children, walk_part}
 use Rattle.layout_schema.proofs.Climbing.{Climbs, below_is_less}
-use Rattle.layout_schema.proofs.Entries.{int_is, child_of, node_entry, two_children, three_children, field_children, Has, HasAll}
-use Rattle.layout_schema.proofs.Stands.{struct_at, kind_here, IsPairAt, Stands, depth, tree_walked, fields_walked, node_at, size_walked, at_node, item_place, struct_of_item, item_depth, item_deeper, range_depth, optional_depth}
+use Rattle.layout_schema.proofs.Listed.{child_of, two_children, three_children, field_children, Has, HasAll}
+use Rattle.layout_schema.proofs.Stands.{struct_at, IsPairAt, depth, tree_walked, fields_walked, node_at, size_walked, at_node, item_place, struct_of_item, item_depth, item_deeper, range_depth, optional_depth}
 use Rattle.layout_schema.proofs.Walks.{offset_at, taken, same_walked, if_false, item_apart, range_first, range_second, range_third, range_none, range_node, bytes_places, bytes_none, bytes_node}
-use Rattle.layout_schema.proofs.Accepted.{same_entry, zero_base, Enters, SomeEnters, enters, leaf_found, no_children, Sized, sized, isset_walked, Told, told, Walks, child_walks, none_walks, moved, Done, done_is, plain_from, key_from, item_from, IsTreePlace, no_pair, Treed, Proper, AllProper, whole_treed, flag_treed, Two, Three, two_fields, three_fields}
+use Rattle.layout_schema.proofs.Accepted.{same_entry, zero_base, Enters, enters, leaf_found, no_children, sized, isset_walked, told, child_walks, none_walks, moved, done_is, plain_from, key_from, item_from, IsTreePlace, no_pair, Treed, AllProper, whole_treed, flag_treed, two_fields, three_fields}
 
 -- the walk of parts, in so many steps, is sound
 abbrev pub Sounds : Version → Values → ℕ → Type 0

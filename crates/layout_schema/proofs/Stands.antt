@@ -1,12 +1,9 @@
 -- A layout where it may stand: what the conditions of entering its nodes come to.
-use Rattle.std.proofs.Common.{◌≡◌, ℕ, zero, suc, ◌+◌, ◌<◌, ◌≤◌, ◌^◌, ℤ, pos, negsuc, Bool, true, false, List, [], ◌∷◌, Option, Some, None, arith, refl, ap, sym, ◌∙◌, subst, map}
-use Rattle.std.specs.Prelude.{max, neg_ℤ, nat_le, nat_lt, ◌&&◌, codes}
-use Rattle.std.specs.Str.{bytes_eq}
-use Rattle.std.specs.Ordering.{int_eq}
-use Rattle.std.proofs.lemmas.Bool.{and_from, le-leb, lt-ltb}
-use Rattle.frozen_model.specs.Trees.{Whole, I8, I16, I32, I64, LeafKind, Flag, Integer, ByteKind, Text, Binary, Holder, AList, ASet, AMap, Leaf, ByteRange, ItemRange, Optional, Struct, NoField, Field, nodes, nodes_all, levels, levels_all, greatest, greatest_bits, greatest_bits_all, IsNarrow, AllNarrow, IsFormed, AllFormed, Rising, ids_of, IsKey, IsPlain, IsItem, value_bits}
+use Rattle.std.proofs.Common.{◌≡◌, ℕ, suc, ◌+◌, ◌≤◌, ◌^◌, ℤ, pos, negsuc, true, [], ◌∷◌, Some, arith, refl, sym, subst, map}
+use Rattle.std.proofs.lemmas.Bool.{le-leb, lt-ltb}
+use Rattle.frozen_model.specs.Trees.{Whole, I8, I16, I32, I64, LeafKind, Flag, Integer, Text, Binary, Holder, AList, ASet, AMap, Leaf, ByteRange, ItemRange, Optional, Struct, NoField, Field, nodes, nodes_all, levels, levels_all, greatest, greatest_bits, greatest_bits_all, IsNarrow, AllNarrow, IsFormed, AllFormed, IsKey, IsPlain, IsItem, value_bits}
 use Rattle.frozen_model.specs.Values.{InBits}
-use Rattle.frozen_model.specs.Layouts.{Version, Version1, Version2, Coded, width, IsCoded, flag_coded, signed_coded, based_coded, Layout, Layouts, OfVersion, AllOfVersion, Legal, AllLegal, in_range}
+use Rattle.frozen_model.specs.Layouts.{Version, Coded, IsCoded, flag_coded, signed_coded, based_coded, Layout, Layouts, OfVersion, AllOfVersion, Legal, AllLegal, in_range}
 use Rattle.layout_tree.specs.declared.node.NodeSpec.{NodeSpec}
 use Rattle.layout_tree.specs.declared.node.Kind.{Kind}
 use Rattle.layout_tree.specs.declared.node.Kind.TheVariants as kinds

@@ -18,7 +18,7 @@ use Rattle.typed_reading.specs.Meaning.{given, under, reading, meaning, readings
 use Rattle.typed_reading.proofs.Valued.{none_of, clean_below}
 use Rattle.layout_schema.specs.Schemas.{base_type, layout_type, schema_type}
 use Rattle.layout_schema.specs.Shapes.{relaxes_in, version_in}
-use Rattle.layout_schema.proofs.Entries.{int_is}
+use Rattle.layout_schema.proofs.Listed.{int_is}
 
 -- a node without a fault as one type has none as the other
 abbrev Weaker : TypeTree → TypeTree → Type 0

@@ -1,23 +1,22 @@
 -- The walk over the layouts that say a layout gives this layout.
-use Rattle.std.proofs.Common.{◌≡◌, ℕ, zero, suc, ◌+◌, ◌<◌, ◌≤◌, ℤ, pos, Bool, true, false, if◌then◌else◌, List, [], ◌∷◌, ◌++◌, Option, Some, None, Result, Ok, Err, arith, refl, ap, sym, ◌∙◌, subst, map, length}
-use Rattle.std.specs.Prelude.{neg_ℤ, nat_le, nat_lt, ◌&&◌}
+use Rattle.std.proofs.Common.{◌≡◌, ℕ, zero, suc, ◌+◌, ◌<◌, ◌≤◌, ℤ, pos, Bool, true, false, if◌then◌else◌, List, [], ◌∷◌, ◌++◌, Some, None, Result, Ok, arith, refl, ap, sym, ◌∙◌, subst, map, length}
+use Rattle.std.specs.Prelude.{neg_ℤ, nat_le, nat_lt}
 use Rattle.std.specs.Ordering.{int_eq}
 use Rattle.std.proofs.lemmas.Bool.{and_from, le-leb, lt-ltb}
 use Rattle.std.proofs.lemmas.List.{append-nil, map-append, length-map}
-use Rattle.frozen_model.specs.Trees.{I8, I16, I32, I64, LeafKind, Flag, Integer, Text, Binary, AList, ASet, AMap, Holder, Leaf, ByteRange, ItemRange, Optional, Struct, NoField, Field, nodes, nodes_all, greatest, greatest_bits, greatest_bits_all, Rising, ids_of}
+use Rattle.frozen_model.specs.Trees.{I8, I16, I32, I64, LeafKind, Flag, Integer, Text, Binary, AList, ASet, AMap, Holder, Leaf, ByteRange, ItemRange, Optional, Struct, NoField, Field, nodes, nodes_all, greatest_bits, greatest_bits_all, Rising, ids_of}
 use Rattle.frozen_model.specs.Values.{Values}
-use Rattle.frozen_model.specs.Layouts.{Version, Coded, width, Unsigned, IsCoded, Layout, Layouts}
+use Rattle.frozen_model.specs.Layouts.{Version, Coded, width, Layout, Layouts}
 use Rattle.layout_tree.specs.declared.node.NodeSpec.{NodeSpec}
 use Rattle.layout_tree.specs.declared.node.Kind.{Kind}
 use Rattle.layout_tree.specs.declared.node.Kind.TheVariants as kinds
-use Rattle.layout_tree.specs.Listing.{inline, inline_all, kind_of, kind_of_bytes, kind_of_holder, item_struct, spec, nodes_of, nodes_of_all}
+use Rattle.layout_tree.specs.Listing.{inline, inline_all, kind_of, kind_of_bytes, kind_of_holder, spec, nodes_of, nodes_of_all}
 use Rattle.layout_tree.specs.Given.{shown, noted_from, all_noted_from}
 use Rattle.layout_tree.specs.Reading.{base_of}
 use Rattle.layout_tree.proofs.Place.{length_nodes}
-use Rattle.layout_schema.specs.Schemas.{type_name}
-use Rattle.layout_schema.specs.Shapes.{Child, Entry, entry_of, Place, AtRoot, InStruct, InList, InSet, InMap, AtFirst, AtValue, AtIsset, AtSize, may_stand, place_of, is_inline, deeper, kind_named, is_id, are_ids, fields_fit, greatest_of, is_width, base_fits, At, may_enter, is_named, Walked, nothing, in_front, walk_children, done, entered, found, walk_part}
-use Rattle.layout_schema.proofs.Entries.{int_same, child_of, node_entry, HasSize, two_children, three_children, field_children, Has, HasAll}
-use Rattle.layout_schema.proofs.Stands.{struct_at, kind_here, Stands, AllStand, depth, tree_walked, fields_walked, node_at, size_walked, at_node, named_kind, wide_leaf, base_leaf, item_place, struct_of_item, item_stands, value_stands, struct_stands, level_in, some_noted}
+use Rattle.layout_schema.specs.Shapes.{Child, entry_of, Place, AtRoot, InStruct, InList, InSet, InMap, AtFirst, AtValue, AtIsset, AtSize, may_stand, place_of, is_inline, deeper, is_id, are_ids, fields_fit, greatest_of, is_width, base_fits, At, Walked, nothing, in_front, walk_children, done, found, walk_part}
+use Rattle.layout_schema.proofs.Listed.{int_same, child_of, node_entry, HasSize, two_children, three_children, field_children, Has, HasAll}
+use Rattle.layout_schema.proofs.Stands.{struct_at, Stands, AllStand, tree_walked, fields_walked, node_at, size_walked, at_node, named_kind, wide_leaf, base_leaf, item_place, struct_of_item, item_stands, value_stands, struct_stands, level_in, some_noted}
 
 -- ---- steps
 

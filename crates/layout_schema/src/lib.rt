@@ -1,13 +1,19 @@
 //! The schema of a layout: what a frozen file says of its layout, as a struct in Compact Protocol.
 #![tactic(auto)]
 
+mod entering;
+mod entries;
 mod fault;
 mod laws;
 mod pieces;
+mod reading;
+mod types;
+mod walk;
 mod write;
 
 pub use fault::SchemaFault;
 pub use laws::{schemas_are_exact, written_schema_is_schema};
+pub use reading::read_schema;
 pub use write::write_schema;
 
 #[cfg(test)]

@@ -1,12 +1,12 @@
 -- What the layouts of a schema say where they list a layout, and that the layouts which are written of it say so.
-use Rattle.std.proofs.Common.{◌≡◌, ℕ, zero, suc, ◌+◌, ◌<◌, ◌≤◌, ℤ, pos, Bool, true, false, ◌==◌, if◌then◌else◌, List, [], ◌∷◌, ◌++◌, Option, Some, None, arith, refl, ap, sym, ◌∙◌, subst, length, map, drop, append_assoc, length-append}
+use Rattle.std.proofs.Common.{◌≡◌, ℕ, zero, suc, ◌+◌, ◌<◌, ◌≤◌, ℤ, pos, Bool, true, false, if◌then◌else◌, List, [], ◌∷◌, ◌++◌, Option, Some, None, arith, refl, ap, sym, ◌∙◌, subst, length, map, drop, append_assoc}
 use Rattle.std.specs.Prelude.{neg_ℤ, nat_abs}
 use Rattle.std.specs.Ordering.{int_eq}
 use Rattle.std.proofs.lemmas.Bool.{false_from_ne_true}
 use Rattle.std.proofs.lemmas.Bool.Decides.{Decides-int_eq}
 use Rattle.std.proofs.lemmas.List.{append-nil, map-append, length-map, drop-drop}
 use Rattle.std.proofs.Math.Seq.{drop-append_seam}
-use Rattle.frozen_model.specs.Trees.{I8, I16, I32, I64, LeafKind, Integer, AList, ASet, AMap, Leaf, ByteRange, ItemRange, Optional, Struct, NoField, Field, nodes, nodes_all}
+use Rattle.frozen_model.specs.Trees.{I8, I16, I32, I64, LeafKind, Leaf, ByteRange, ItemRange, Optional, Struct, NoField, Field, nodes, nodes_all}
 use Rattle.frozen_model.specs.Values.{Values, NoValue, And}
 use Rattle.frozen_model.specs.Layouts.{Version, Version1, Version2, Coded, width, IsCoded, flag_coded, signed_coded, based_coded, Layout, Layouts, OfVersion, AllOfVersion}
 use Rattle.typed_tree.specs.Spots.{pair}
@@ -14,15 +14,15 @@ use Rattle.layout_tree.specs.declared.node.NodeSpec.{NodeSpec}
 use Rattle.layout_tree.specs.declared.node.Kind.{Kind}
 use Rattle.layout_tree.specs.declared.node.Kind.TheVariants as kinds
 use Rattle.layout_tree.specs.Listing.{Noted, inline, inline_all, kind_of, kind_of_bytes, kind_of_holder, item_struct, spec, nodes_of, nodes_of_all}
-use Rattle.layout_tree.specs.Given.{shown, resting, noted_from, all_noted_from}
+use Rattle.layout_tree.specs.Given.{shown, noted_from, all_noted_from}
 use Rattle.layout_tree.specs.Reading.{whole_kind, base_of}
 use Rattle.layout_tree.specs.Segments.{head_node, rest_nodes}
 use Rattle.layout_tree.proofs.Settling.{split_nodes}
-use Rattle.layout_tree.proofs.Place.{length_nodes, length_nodes_all}
-use Rattle.layout_schema.specs.Schemas.{type_name, number, child_value, children_of, base_in, layout_of_node, layouts_of}
+use Rattle.layout_tree.proofs.Place.{length_nodes}
+use Rattle.layout_schema.specs.Schemas.{type_name, number, child_value, children_of, layout_of_node, layouts_of}
 use Rattle.layout_schema.specs.Shapes.{Child, Entry, children_in, entry_in, entry_of}
 use Rattle.layout_schema.proofs.Spots.{Childless, childless_append, others, others_all, below_others, nodes_below}
-use Rattle.layout_schema.proofs.Places.{same_test, other_test, shown_childless, children_past, children_none}
+use Rattle.layout_schema.proofs.Places.{same_test, shown_childless, children_past, children_none}
 
 -- ---- tests of numbers
 

@@ -1,0 +1,4 @@
+pub mod LayoutsHeld
+pub mod FileParts
+pub mod Openings
+pub mod Composed

@@ -1,0 +1,5 @@
+pub mod Held
+pub mod Written
+pub mod Parts
+pub mod Opening
+pub mod Laws

@@ -1,12 +1,12 @@
 -- The steps that a text begins with, and that each text has one answer.
-use Rattle.std.proofs.Common.{◌≡◌, ◌≢◌, ℕ, zero, suc, ◌+◌, ◌-◌, ◌<◌, ◌≤◌, ◌⊎◌, inl, inr, List, [], ◌∷◌, ◌++◌, length, Option, Some, None, refl, sym, ap, ◌∙◌, subst, arith, append_assoc, length-append}
-use Rattle.path_text.specs.Steps.{PathStep, PlacedStep, placed, WholePath}
-use Rattle.path_text.specs.Texts.{StepText, IsWhole, Begins, PathText, PathFaultAt}
+use Rattle.std.proofs.Common.{◌≡◌, ◌≢◌, ℕ, zero, suc, ◌+◌, ◌<◌, ◌≤◌, ◌⊎◌, inl, inr, List, [], ◌∷◌, ◌++◌, length, Option, Some, None, refl, sym, ap, ◌∙◌, subst, arith, length-append}
+use Rattle.path_text.specs.Steps.{PathStep, PlacedStep, placed}
+use Rattle.path_text.specs.Texts.{StepText, IsWhole, Begins}
 use Rattle.path_text.specs.Reading.{read_step}
-use Rattle.path_text.proofs.Found.{some-is, pair-is}
+use Rattle.path_text.proofs.Found.{pair-is}
 use Rattle.path_text.proofs.Complete.{step-found, step-begins}
-use Rattle.path_text.proofs.Sound.{StepHere, step-is}
-use Rattle.path_text.proofs.Utf8.{EndsAscii, step-ends}
+use Rattle.path_text.proofs.Sound.{step-is}
+use Rattle.path_text.proofs.Utf8.{step-ends}
 
 -- a step has a byte or more
 pub step-some : (s : PathStep) (own : List ℕ) → StepText s own → 0 < length own

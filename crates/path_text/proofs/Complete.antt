@@ -1,11 +1,11 @@
 -- Each text of a step is read, whatever is behind it.
-use Rattle.std.proofs.Common.{◌≡◌, ℕ, suc, ◌+◌, ◌<◌, ◌≤◌, ◌^◌, Bool, true, false, ◌&&◌, ◌||◌, ◌==◌, nat_lt, nat_le, List, [], ◌∷◌, ◌++◌, length, take, drop, Option, Some, None, Ok, refl, sym, ap, ◌∙◌, subst, arith, append_assoc, cond}
-use Rattle.std.specs.Prelude.{ℤ, codes}
+use Rattle.std.proofs.Common.{◌≡◌, ℕ, ◌<◌, ◌^◌, Bool, true, false, ◌&&◌, ◌||◌, ◌==◌, nat_lt, nat_le, List, [], ◌∷◌, ◌++◌, length, Some, None, Ok, refl, sym, ap, ◌∙◌, subst, arith, append_assoc}
+use Rattle.std.specs.Prelude.{ℤ}
 use Rattle.std.specs.Char.{is_ascii_digit}
-use Rattle.std.specs.List.{prefix_len, list_all}
+use Rattle.std.specs.List.{list_all}
 use Rattle.std.specs.Str.{all_ascii_digits}
 use Rattle.std.specs.Str.Parse.{digits_value}
-use Rattle.std.proofs.lemmas.Bool.{cond_both, cond-true, cond-false, and_parts}
+use Rattle.std.proofs.lemmas.Bool.{cond_both, cond-true, and_parts}
 use Rattle.std.proofs.lemmas.Bool.Decides.{nat_tests}
 use Rattle.std.proofs.lemmas.List.Sums.{list_all-from_AllPass}
 use Rattle.hex.specs.Hex.{decode_of, is_hex_digit}
@@ -14,9 +14,8 @@ use Rattle.idl_tokens.specs.Characters.{is_word_start}
 use Rattle.idl_tokens.specs.Numbers.{in_64_bits, negative}
 use Rattle.path_text.specs.Steps.{PathKey, int_key, flag_key, text_key, bytes_key, PathStep, field_step, index_step, key_step}
 use Rattle.path_text.specs.Texts.{is_name_character, is_name, IsDecimal, with_sign, escaped, KeyText, StepText, goes_on, IsWhole}
-use Rattle.path_text.specs.Reading.{Found, begins_name, read_field, magnitude, with_rest, read_digits, signed, read_int, byte_of, before_text, read_text, as_text, read_bytes, read_plain, read_key, closed, read_step}
+use Rattle.path_text.specs.Reading.{read_field, magnitude, read_digits, signed, read_int, before_text, read_text, read_bytes, read_key, read_step}
 use Rattle.path_text.proofs.Runs.{Stops, run-take, run-drop}
-use Rattle.path_text.proofs.Found.{closed-found}
 
 -- ---- numbers
 

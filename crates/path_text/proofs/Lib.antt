@@ -7,4 +7,5 @@ mod Begins
 mod PieceLaws
 mod TextUtf8
 mod Parsing
+mod FitLaws
 mod WorkedRows

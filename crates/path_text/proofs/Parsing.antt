@@ -1,5 +1,5 @@
 -- The steps of reading a whole text.
-use Rattle.std.proofs.Common.{◌≡◌, ◌≢◌, ℕ, suc, ◌+◌, ◌<◌, ◌≤◌, List, [], ◌∷◌, ◌++◌, length, Option, Some, None, refl, sym, ap, ◌∙◌, subst, arith, length-append}
+use Rattle.std.proofs.Common.{◌≡◌, ℕ, ◌+◌, ◌<◌, ◌≤◌, List, [], ◌∷◌, ◌++◌, length, Some, None, ap, ◌∙◌, subst, arith, length-append}
 use Rattle.std.specs.Str.{IsUtf8}
 use Rattle.std.proofs.lemmas.List.{nil_from_length}
 use Rattle.path_text.specs.Steps.{PathStep, PlacedStep, placed, whole}
@@ -7,7 +7,7 @@ use Rattle.path_text.specs.Texts.{Begins, PathText, PathFaultAt}
 use Rattle.path_text.specs.Reading.{read_step}
 use Rattle.path_text.proofs.Sound.{step-is}
 use Rattle.path_text.proofs.Utf8.{step-ends, behind-step}
-use Rattle.path_text.proofs.Begins.{step-some, begins-fits, begins-more, none-here}
+use Rattle.path_text.proofs.Begins.{step-some, begins-more, none-here}
 
 -- one more step is read
 pub record Stepped (steps : List PlacedStep) (text behind rest : List ℕ) : Type 0 where

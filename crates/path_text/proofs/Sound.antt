@@ -1,21 +1,19 @@
 -- What is read as a step is a text of it.
-use Rattle.std.proofs.Common.{◌≡◌, ℕ, suc, ◌+◌, ◌<◌, ◌≤◌, ◌^◌, Bool, true, false, ◌&&◌, ◌||◌, ◌==◌, nat_lt, List, [], ◌∷◌, ◌++◌, length, take, drop, Option, Some, None, Result, Ok, Err, refl, sym, ap, ◌∙◌, subst, arith, append_assoc, cond}
+use Rattle.std.proofs.Common.{◌≡◌, ℕ, suc, ◌+◌, ◌<◌, ◌^◌, Bool, true, false, ◌&&◌, ◌||◌, ◌==◌, nat_lt, List, [], ◌∷◌, ◌++◌, length, take, drop, Option, Some, None, Result, Ok, Err, refl, sym, ap, ◌∙◌, subst, arith, append_assoc, cond}
 use Rattle.std.specs.Prelude.{ℤ, codes, option_map}
 use Rattle.std.specs.Char.{is_ascii_digit}
-use Rattle.std.specs.List.{prefix_len, list_all}
+use Rattle.std.specs.List.{prefix_len}
 use Rattle.std.specs.Str.Parse.{digits_value}
 use Rattle.std.proofs.lemmas.Bool.{cond_both, cond-true, cond-false, and_parts, ltb-true, eqb-true}
-use Rattle.std.proofs.lemmas.Bool.Decides.{nat_tests}
 use Rattle.std.proofs.lemmas.List.{take-append-drop}
 use Rattle.hex.specs.Hex.{decode_of, is_hex_digit}
 use Rattle.hex.specs.declared.error.FromHexError.{FromHexError}
-use Rattle.idl_tokens.specs.Characters.{is_word_start}
 use Rattle.idl_tokens.specs.Numbers.{in_64_bits}
 use Rattle.path_text.specs.Steps.{PathKey, int_key, flag_key, text_key, bytes_key, PathStep, field_step, index_step, key_step}
 use Rattle.path_text.specs.Texts.{is_name_character, is_name, IsDecimal, with_sign, escaped, KeyText, StepText, goes_on, IsWhole}
-use Rattle.path_text.specs.Reading.{Found, behind_word, begins_name, read_field, magnitude, with_rest, read_digits, signed, read_int, before_text, read_text, as_text, as_bytes, read_bytes, or_else, read_word, read_plain, read_key, closed, read_step}
+use Rattle.path_text.specs.Reading.{Found, behind_word, begins_name, read_field, magnitude, with_rest, read_digits, signed, read_int, before_text, read_text, as_text, as_bytes, read_bytes, or_else, read_plain, read_key, closed, read_step}
 use Rattle.path_text.proofs.Runs.{Stops, run-front, run-stops}
-use Rattle.path_text.proofs.Found.{some-is, Pair, pair-is, word-is, Closed, closed-is, with-rest-is}
+use Rattle.path_text.proofs.Found.{some-is, Pair, pair-is, word-is, closed-is, with-rest-is}
 use Rattle.path_text.proofs.Complete.{digits-pass}
 
 -- ---- numbers

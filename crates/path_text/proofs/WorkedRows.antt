@@ -1,12 +1,12 @@
 -- Worked rows: what texts are, where others go wrong, and where paths lead.
-use Rattle.std.proofs.Common.{◌≡◌, ℕ, List, [], ◌∷◌, Ok, Err, true, false, refl, lit<}
+use Rattle.std.proofs.Common.{◌≡◌, [], ◌∷◌, Ok, Err, true, refl, lit<}
 use Rattle.std.specs.Prelude.{codes, pos, negsuc}
 use Rattle.hex.proofs.OnLiterals.{hex_on_literals}
 use Rattle.idl_profile.specs.declared.kinds.Need.TheVariants.{Plain}
-use Rattle.idl_profile.specs.Types.{TypeTree, scalar, i8, i32, text, bytes, list_of, set_of, map_of, named, struct_of, no_fields, field, without}
+use Rattle.idl_profile.specs.Types.{TypeTree, scalar, i8, i32, text, set_of, map_of, named, struct_of, no_fields, field, without}
 use Rattle.path_text.specs.declared.fault.PathFault.TheVariants.{NoField, NotAStep, BadKey}
-use Rattle.path_text.specs.Steps.{PathStep, field_step, index_step, key_step, int_key, flag_key, text_key, bytes_key, PlacedStep, placed, WholePath, whole}
-use Rattle.path_text.specs.Texts.{PathText, PathFaultAt, Begins}
+use Rattle.path_text.specs.Steps.{field_step, index_step, key_step, int_key, flag_key, text_key, bytes_key, placed, whole}
+use Rattle.path_text.specs.Texts.{PathText, PathFaultAt}
 use Rattle.path_text.specs.Fitting.{fitted, scanned}
 use Rattle.path_text.proofs.Begins.{none-here}
 

@@ -1,5 +1,5 @@
 -- What the values of this crate stand for.
-use Rattle.std.specs.Prelude.{ℕ, List, map, string_bytes}
+use Rattle.std.specs.Prelude.{map, string_bytes}
 use Rattle.path_text.specs.declared.path.KeyLit.{KeyLit}
 use Rattle.path_text.specs.declared.path.KeyLit.TheVariants as k
 use Rattle.path_text.specs.declared.path.StepKind.{StepKind}

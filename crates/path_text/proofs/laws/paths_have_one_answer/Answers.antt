@@ -1,7 +1,7 @@
-use Rattle.std.proofs.Common.{◌≡◌, ◌≢◌, ℕ, ◌+◌, ◌-◌, ◌⊎◌, inl, inr, List, [], length, refl, sym, ap, ◌∙◌, subst, arith, ◌≤◌}
+use Rattle.std.proofs.Common.{◌≡◌, ◌≢◌, ℕ, ◌-◌, ◌⊎◌, inl, inr, List, [], length, refl, sym, ap, ◌∙◌, subst, arith}
 use Rattle.path_text.specs.Steps.{PlacedStep, WholePath, whole}
 use Rattle.path_text.specs.Texts.{Begins, PathText, PathFaultAt}
-use Rattle.path_text.proofs.Begins.{one-path, path-or-fault, one-rest, NoStep, Answer, answer, begins-fits}
+use Rattle.path_text.proofs.Begins.{one-path, path-or-fault, one-rest, NoStep, answer, begins-fits}
 use Rattle.path_text.proofs.laws.paths_have_one_answer.Goals as goal
 
 same-path : (p q : WholePath) → p.steps ≡ q.steps → p.len ≡ q.len → p ≡ q

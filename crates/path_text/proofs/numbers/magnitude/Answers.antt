@@ -1,4 +1,4 @@
-use Rattle.std.proofs.Common.{sym, ◌∙◌, rules}
+use Rattle.std.proofs.Common.{◌∙◌}
 use Rattle.path_text.proofs.PieceLaws.{parsed, digits-utf8}
 use Rattle.path_text.proofs.numbers.magnitude.Goals as goal
 

@@ -1,4 +1,3 @@
-use Rattle.std.proofs.Common.{sym, ◌∙◌, subst}
 use Rattle.std.specs.Str.{IsUtf8}
 use Rattle.path_text.specs.Texts.{is_name_character}
 use Rattle.path_text.proofs.PieceLaws.{name-utf8}

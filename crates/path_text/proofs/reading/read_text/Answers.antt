@@ -1,4 +1,4 @@
-use Rattle.std.proofs.Common.{◌≡◌, ℕ, List, [], ◌∷◌, Some, None, sym, refl}
+use Rattle.std.proofs.Common.{◌≡◌, [], ◌∷◌, Some, None, sym}
 use Rattle.std.specs.Str.{IsUtf8}
 use Rattle.path_text.specs.Reading.{byte_of, behind_word}
 use Rattle.path_text.proofs.PieceLaws.{spelled-more}

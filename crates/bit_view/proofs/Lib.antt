@@ -1,0 +1,11 @@
+pub mod Nodes
+pub mod Telling
+pub mod Places
+pub mod Ranges
+pub mod Shapes
+pub mod Numbers
+pub mod Fields
+pub mod Offsets
+pub mod Seen
+pub mod Cursors
+pub mod Worked

@@ -1,0 +1,14 @@
+use Rattle.std.proofs.Common.{arith, refl}
+use Rattle.bit_view.proofs.Seen.{view_small, view_first}
+use Rattle.bit_view.proofs.view.View.first.Goals as goal
+
+pub overflow_add-result : goal.overflow_add-result
+overflow_add-result c = omega (arith, view_small c.args.self)
+
+pub invariant_of-result : goal.invariant_of-result
+invariant_of-result c =
+    let w = c.args.self in
+    record { settled = w.settled; lies = (view_first w _ w.bit c.requires refl refl).lies }
+
+pub returns : goal.returns
+returns c = let w = c.args.self in (view_first w _ w.bit c.requires refl refl).value

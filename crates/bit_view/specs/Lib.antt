@@ -1,0 +1,4 @@
+pub mod Lying
+pub mod InPlace
+pub mod Views
+pub mod Cursor

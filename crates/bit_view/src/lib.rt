@@ -1,0 +1,15 @@
+//! Views of the parts of a value, read in place in a content.
+#![tactic(auto)]
+
+mod items;
+mod laws;
+mod parts;
+mod read;
+mod view;
+
+pub use items::Items;
+pub use laws::view_is_part;
+pub use view::View;
+
+#[cfg(test)]
+mod tests;

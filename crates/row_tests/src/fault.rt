@@ -11,6 +11,8 @@ pub(crate) enum RowFault {
     Definition(DefFault),
     /// The bytes spell no value.
     Value(ValueFault),
+    /// A node takes no width, or not this one, or a width is too small for the value.
+    Widths,
     NoMemory,
 }
 

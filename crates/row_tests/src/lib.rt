@@ -7,6 +7,10 @@ mod contents;
 #[cfg(test)]
 mod fault;
 #[cfg(test)]
+mod passes;
+#[cfg(test)]
 mod tests;
 #[cfg(test)]
 mod values;
+#[cfg(test)]
+mod widths;

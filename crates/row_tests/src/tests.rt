@@ -1,45 +1,75 @@
-//! Worked rows, through the calls that read, write and freeze values.
+//! Worked rows, through the calls that read, measure, pack and write values.
 
-use crate::contents::{freeze_value, frozen};
+use crate::contents::{freeze_value, frozen, has_contents};
+use crate::passes::{first_pass, first_shape, range_passes, width};
 use crate::values::{definition, fault_line, respelled, value, with_zeros};
 use std::test::Fail;
 
-/// Values of each kind freeze to the contents worked out by hand.
+/// Values of each kind are packed to the contents worked out by hand, under layouts with the widths worked
+/// out by hand.
 #[test]
-fn contents_of_rows(rt: HostRuntime) -> Result<(), Fail> {
-    for (text, bytes, content) in [
+fn contents_in_both_versions(rt: HostRuntime) -> Result<(), Fail> {
+    for (text, bytes, first_widths, first, second_widths, second) in [
         (
             "struct P {1: i32 x; 2: i32 y}",
             b"\x15\x0a\x15\x01\x00".as_slice(),
+            [(1, 4), (2, 1)].as_slice(),
+            b"\x15".as_slice(),
+            [].as_slice(),
             b"".as_slice(),
         ),
         (
             "struct T {1: list<string> s}",
             b"\x19\x48\x01\x61\x01\x62\x01\x63\x01\x64\x00".as_slice(),
+            [(2, 1), (3, 3), (5, 3), (6, 1)].as_slice(),
+            b"\x09\xba\xdc\x61\x62\x63\x64".as_slice(),
+            [(2, 1), (3, 3), (5, 3), (6, 1)].as_slice(),
             b"\x09\xba\xdc\x61\x62\x63\x64".as_slice(),
         ),
         (
             "struct B {1: bool f; 2: i64 m}",
             b"\x11\x16\xff\xff\xff\xff\xff\xff\xff\xff\xff\x01\x00".as_slice(),
+            [(1, 1), (2, 64)].as_slice(),
+            b"\x01\x00\x00\x00\x00\x00\x00\x00\x01".as_slice(),
+            [(1, 1)].as_slice(),
             b"\x01".as_slice(),
         ),
         (
             "struct E {1: i64 a; 2: i8 b; 3: i8 c}",
             b"\x16\xfe\xff\xff\xff\xff\xff\xff\xff\xff\x01\x13\x80\x13\x7f\x00".as_slice(),
+            [(1, 64), (2, 8), (3, 8)].as_slice(),
+            b"\xff\xff\xff\xff\xff\xff\xff\x7f\x80\x7f".as_slice(),
+            [].as_slice(),
             b"".as_slice(),
         ),
         (
             "struct O {1: optional i32 a} struct H {1: list<O> os}",
             b"\x19\x3c\x15\x00\x00\x00\x15\x0a\x00\x00".as_slice(),
+            [(2, 1), (3, 2), (6, 1), (7, 4)].as_slice(),
+            b"\x07\x01\x2c".as_slice(),
+            [(2, 1), (3, 2), (6, 1), (7, 3)].as_slice(),
             b"\x07\x01\x0b".as_slice(),
         ),
         (
             "struct M {1: map<i32,string> m}",
             b"\x1b\x03\x58\x12\x01\x69\x0a\x01\x65\x02\x01\x61\x00".as_slice(),
+            [(2, 1), (3, 2), (5, 5), (7, 3), (8, 1)].as_slice(),
+            b"\x07\x81\x4b\x27\x07\x61\x65\x69".as_slice(),
+            [(2, 1), (3, 2), (5, 4), (7, 3), (8, 1)].as_slice(),
             b"\x07\xb0\xc4\xd8\x61\x65\x69".as_slice(),
         ),
     ] {
-        assert_eq!(rt; frozen(rt.alloc(), text, bytes)?.as_slice(), content);
+        assert!(rt;
+            has_contents(
+                rt.alloc(),
+                text,
+                bytes,
+                first_widths,
+                first,
+                second_widths,
+                second
+            )?
+        );
     }
     Ok(())
 }
@@ -48,8 +78,19 @@ fn contents_of_rows(rt: HostRuntime) -> Result<(), Fail> {
 #[test]
 fn a_million_zeros(rt: HostRuntime) -> Result<(), Fail> {
     let bytes = with_zeros(rt.alloc(), b"\x19\xf5\xc0\x84\x3d", 1_000_001)?;
-    let content = frozen(rt.alloc(), "struct Z {1: list<i32> z}", &bytes)?;
-    assert_eq!(rt; content.as_slice(), b"\x03\x09\x3d".as_slice());
+    let widths = [(2, 2), (3, 20)];
+    let content = b"\x03\x09\x3d".as_slice();
+    assert!(rt;
+        has_contents(
+            rt.alloc(),
+            "struct Z {1: list<i32> z}",
+            &bytes,
+            &widths,
+            content,
+            &widths,
+            content
+        )?
+    );
     Ok(())
 }
 
@@ -212,6 +253,59 @@ fn as_many_nodes_as_there_may_be(rt: HostRuntime) -> Result<(), Fail> {
     let tree = value(rt.alloc(), &def, b"\x01\xfe\x3f\x00")?;
     let frozen = freeze_value(rt.alloc(), &def, &tree)?;
     assert_eq!(rt; frozen.layouts.count(), 4096);
+    assert_eq!(rt; width(&frozen.layouts, 4094), Some(0));
+    assert_eq!(rt; width(&frozen.layouts, 4095), Some(1));
     assert_eq!(rt; frozen.content.as_slice(), b"\x01".as_slice());
+    Ok(())
+}
+
+/// From the shape of version 1, two passes over four texts widen the layout and the third does not.
+#[test]
+fn passes_over_texts(rt: HostRuntime) -> Result<(), Fail> {
+    let def = definition(rt.alloc(), "struct T {1: list<string> s}")?;
+    let tree = value(
+        rt.alloc(),
+        &def,
+        b"\x19\x48\x01\x61\x01\x62\x01\x63\x01\x64\x00",
+    )?;
+    let mut layouts = first_shape(rt.alloc(), &def, tree.top())?;
+    assert!(rt; first_pass(&mut layouts, tree.top()));
+    for (node, bits) in [(2, 0), (3, 3), (5, 2), (6, 1)] {
+        assert_eq!(rt; width(&layouts, node), Some(bits));
+    }
+    assert!(rt; first_pass(&mut layouts, tree.top()));
+    for (node, bits) in [(2, 1), (3, 3), (5, 3), (6, 1)] {
+        assert_eq!(rt; width(&layouts, node), Some(bits));
+    }
+    assert!(rt; !first_pass(&mut layouts, tree.top()));
+    Ok(())
+}
+
+/// Where all numbers are 0, the first pass widens nothing.
+#[test]
+fn one_pass_over_zeros(rt: HostRuntime) -> Result<(), Fail> {
+    let def = definition(rt.alloc(), "struct P {1: i32 x; 2: i32 y}")?;
+    let tree = value(rt.alloc(), &def, b"\x00")?;
+    let mut layouts = first_shape(rt.alloc(), &def, tree.top())?;
+    assert!(rt; !first_pass(&mut layouts, tree.top()));
+    Ok(())
+}
+
+/// Behind one pass over four texts, one pass over their ranges widens the distances and the next does not,
+/// and the layout is the least one.
+#[test]
+fn passes_over_ranges(rt: HostRuntime) -> Result<(), Fail> {
+    let def = definition(rt.alloc(), "struct T {1: list<string> s}")?;
+    let tree = value(
+        rt.alloc(),
+        &def,
+        b"\x19\x48\x01\x61\x01\x62\x01\x63\x01\x64\x00",
+    )?;
+    let least = freeze_value(rt.alloc(), &def, &tree)?;
+    let answers = range_passes(rt.alloc(), &def, tree.top(), &least.layouts)?;
+    assert_eq!(rt; answers.ranges, 6);
+    assert!(rt; answers.first);
+    assert!(rt; !answers.second);
+    assert!(rt; answers.same);
     Ok(())
 }

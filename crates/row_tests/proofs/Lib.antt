@@ -1,0 +1,5 @@
+mod Widening
+mod FirstVersion
+mod Settling
+mod Blocks
+mod Passing

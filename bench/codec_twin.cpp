@@ -421,6 +421,89 @@ __attribute__((noinline)) Bytes freeze(const Type& type, const Tree& t) {
   return out;
 }
 
+// ---- the check of a content by the nodes of a layout: distances, ends, zero bits, texts, keys and numbers
+
+struct Opener {
+  const Specs& s; const uint8_t* in; uint64_t len, next = 0, cells = 0;
+  uint64_t get(uint64_t start, uint64_t bit, uint32_t width) const {
+    if (!width) return 0;
+    uint64_t x = 0, at = start + bit / 8, low = bit % 8;
+    if (at + 9 <= len) { memcpy(&x, in + at, 8); x >>= low; if (low + width > 64) x |= uint64_t(in[at + 8]) << (64 - low); }
+    else for (uint32_t i = 0; i < width; i++) { uint64_t k = bit + i; x |= uint64_t(in[start + k / 8] >> k % 8 & 1) << i; }
+    return x & ~0ull >> (64 - width);
+  }
+  void zero(uint64_t start, uint64_t bit, uint64_t width) const {
+    for (; width > 64; width -= 64, bit += 64) if (get(start, bit, 64)) refuse("dirty");
+    if (get(start, bit, uint32_t(width))) refuse("dirty");
+  }
+  // The count of a range, whose block of so many bits an item begins next.
+  uint64_t range(uint32_t spec, uint64_t start, uint64_t bit, uint64_t stride, uint64_t& at) {
+    uint64_t far = get(start, bit, s[spec + 1].bits), n = get(start, bit + s[spec + 1].bits, s[spec + 2].bits);
+    if (far != (n ? next - start : 0)) refuse("distance");
+    uint64_t bits = stride * n, size = (bits + 7) / 8;
+    if (size > len - next) refuse("short");
+    at = next; next += size; cells += 2;
+    if (bits % 8) zero(at, bits, 8 * size - bits);
+    return n;
+  }
+  // The cells of a part in its block alone, which an absent one has too.
+  uint64_t inline_cells(uint32_t spec) const {
+    switch (s[spec].kind) {
+      case At::Struct: { uint64_t n = 0; for (uint32_t c = spec + 1; c < s[spec].past; c = s[c].past) n += inline_cells(c); return n; }
+      case At::Optional: return 1 + inline_cells(spec + 2);
+      case At::Flag: case At::Int: return 1;
+      default: return 2;
+    }
+  }
+  int64_t number(uint32_t spec, uint64_t start, uint64_t bit) const { return int64_t(uint64_t(s[spec].base) + get(start, bit, s[spec].bits)); }
+  void part(uint32_t spec, uint64_t start, uint64_t bit) {
+    switch (s[spec].kind) {
+      case At::Flag: cells += 1; return;
+      case At::Int: { int64_t x = number(spec, start, bit); if (x != int32_t(x)) refuse("range"); cells += 1; return; }
+      case At::Text: {
+        uint64_t at, n = range(spec, start, bit, 8, at); cells += n;
+        if (!is_utf8({reinterpret_cast<const char*>(in + at), size_t(n)})) refuse("text");
+        return;
+      }
+      case At::List: {
+        uint64_t stride = s[spec + 3].bits, at, n = range(spec, start, bit, stride, at); cells += n;
+        for (uint64_t i = 0; i < n; i++) part(spec + 3, at, stride * i);
+        return;
+      }
+      case At::Map: {
+        uint32_t key = spec + 4, value = s[key].past; uint64_t stride = s[spec + 3].bits, at, n = range(spec, start, bit, stride, at);
+        cells += n; int64_t number_before = 0; std::string_view text_before;
+        for (uint64_t i = 0; i < n; i++) {
+          uint64_t here = next; part(key, at, stride * i);
+          if (s[key].kind == At::Int) { int64_t x = number(key, at, stride * i); if (i && x <= number_before) refuse("order"); number_before = x; }
+          else {
+            std::string_view x{reinterpret_cast<const char*>(in + here), size_t(next - here)};
+            if (i && x <= text_before) refuse("order");
+            text_before = x;
+          }
+          part(value, at, stride * i + s[key].bits);
+        }
+        return;
+      }
+      case At::Struct: for (uint32_t c = spec + 1; c < s[spec].past; c = s[c].past) { part(c, start, bit); bit += s[c].bits; } return;
+      case At::Optional:
+        cells += 1;
+        if (get(start, bit, s[spec + 1].bits)) part(spec + 2, start, bit + s[spec + 1].bits);
+        else { zero(start, bit + s[spec + 1].bits, s[spec + 2].bits); cells += inline_cells(spec + 2); }
+        return;
+      default: return;
+    }
+  }
+};
+__attribute__((noinline)) uint64_t open_content(const Specs& s, const Bytes& b) {
+  Opener o{s, b.data(), b.size()}; o.next = (s[0].bits + 7) / 8;
+  if (o.next > o.len) refuse("short");
+  o.zero(0, s[0].bits, 8 * o.next - s[0].bits); o.part(0, 0, 0);
+  if (o.next != o.len) refuse("bytes behind");
+  if (o.cells > CELL_LIMIT) refuse("cells");
+  return o.cells;
+}
+
 static uint64_t checksum(const Bytes& b) { uint64_t sum = 0; for (uint8_t x : b) sum = sum * 31 + x; return sum; }
 static uint64_t speed(uint64_t bytes, uint64_t ns) { return bytes * 1000 / std::max<uint64_t>(ns, 1); }
 
@@ -437,16 +520,18 @@ int main(int argc, char** argv) {
     printf("users %u bytes %zu spelled %lu content %lu\n", USERS, bytes.size(), checksum(encode(ROOT, t)), checksum(freeze(ROOT, t)));
     return 0;
   }
-  uint64_t checking = ~0ull, decoding = ~0ull, encoding = ~0ull, measuring = ~0ull, freezing = ~0ull, content = 0; Times times;
+  uint64_t checking = ~0ull, decoding = ~0ull, encoding = ~0ull, measuring = ~0ull, freezing = ~0ull, opening = ~0ull, content = 0; Times times;
   for (uint32_t i = 0; i < ROUNDS; i++) {
     uint64_t t0 = now(); check(ROOT, bytes); checking = std::min(checking, now() - t0);
     t0 = now(); Tree t = decode(ROOT, bytes); decoding = std::min(decoding, now() - t0);
     t0 = now(); Bytes written = encode(ROOT, t); encoding = std::min(encoding, now() - t0);
     if (written != bytes) refuse("written otherwise");
-    uint64_t len; t0 = now(); measure(ROOT, t, len, times); measuring = std::min(measuring, now() - t0);
+    uint64_t len; t0 = now(); Specs s = measure(ROOT, t, len, times); measuring = std::min(measuring, now() - t0);
     t0 = now(); Bytes frozen = freeze(ROOT, t); freezing = std::min(freezing, now() - t0); content = frozen.size();
+    t0 = now(); uint64_t cells = open_content(s, frozen); opening = std::min(opening, now() - t0);
+    if (cells != check(ROOT, bytes).cells) refuse("other cells");
   }
   printf("c++, %zu bytes: check %lu MB/s, decode %lu MB/s, encode %lu MB/s\n", bytes.size(), speed(bytes.size(), checking), speed(bytes.size(), decoding), speed(bytes.size(), encoding));
-  printf("c++, content of %lu bytes: measure %lu us, freeze %lu us; bases %lu us, one pass %lu us, gathering %lu us, a pass over ranges %lu us\n",
-         content, measuring / 1000, freezing / 1000, times.bases / 1000, times.pass / 1000, times.gather / 1000, times.ranges / 1000);
+  printf("c++, content of %lu bytes: check %lu MB/s, measure %lu us, freeze %lu us; bases %lu us, one pass %lu us, gathering %lu us, a pass over ranges %lu us\n",
+         content, speed(content, opening), measuring / 1000, freezing / 1000, times.bases / 1000, times.pass / 1000, times.gather / 1000, times.ranges / 1000);
 }

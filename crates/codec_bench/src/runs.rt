@@ -8,6 +8,7 @@ ghost use Rattle.codec_bench.specs.Users.{IsRootValue};
 use crate::timing::{ROUNDS, microseconds, nanoseconds, speed};
 use crate::trouble::Trouble;
 use compact_codec::{decode, encode};
+use content_check::check_content;
 use freezer::{Frozen, freeze};
 use idl_parse::Definition;
 use std::alloc::{AllocError, Global};
@@ -23,11 +24,13 @@ pub(crate) struct ReadSpeeds {
     pub(crate) encode: u64,
 }
 
-/// Microseconds, and the bytes of the content.
+/// The bytes of the content, how many microseconds freezing takes, and megabytes a second of the content that are
+/// checked.
 #[derive(Clone, Copy)]
 pub(crate) struct FreezeTimes {
     pub(crate) content: u64,
     pub(crate) freeze: u64,
+    pub(crate) check: u64,
 }
 
 /// A sum of bytes that tells their order.
@@ -61,6 +64,16 @@ fn freeze_value(alloc: Global, def: &Definition, tree: &Tree) -> Result<Frozen, 
     requires { IsRootValue (definition_of def.now) (value_of_tree tree.now) }
 {
     freeze(alloc, def, tree.top())
+}
+
+/// The cells of the value that was frozen, by the check of its content.
+#[inline(never)]
+fn check_frozen(frozen: &Frozen) -> Result<u64, Trouble> {
+    let content = frozen.content.as_slice();
+    if content.len() as u64 >= 1 << 56 {
+        return Err(Trouble::Long);
+    }
+    Ok(check_content(&frozen.layouts, content)?)
 }
 
 /// The canonical spelling of what bytes spell.
@@ -106,22 +119,28 @@ pub(crate) fn reads(
     })
 }
 
-/// How long a value takes to be frozen: measured and packed.
+/// How long a value takes to be frozen, measured and packed, and how fast its content is checked.
 pub(crate) fn freezes(
     rt: &HostRuntime,
     def: &Definition,
     bytes: &[u8],
 ) -> Result<FreezeTimes, Trouble> {
     let tree = value(rt.alloc(), def, bytes)?;
-    let mut least = FreezeTimes {
-        content: 0,
-        freeze: u64::MAX,
-    };
+    let mut content = 0;
+    let mut freezing = u64::MAX;
+    let mut checking = u64::MAX;
     for _ in 0..ROUNDS {
         let start = Instant::now(rt)?;
         let frozen = freeze_value(rt.alloc(), def, &tree)?;
-        least.freeze = least.freeze.min(microseconds(rt, start)?);
-        least.content = frozen.content.len() as u64;
+        freezing = freezing.min(microseconds(rt, start)?);
+        let start = Instant::now(rt)?;
+        check_frozen(&frozen)?;
+        checking = checking.min(nanoseconds(rt, start)?);
+        content = frozen.content.len();
     }
-    Ok(least)
+    Ok(FreezeTimes {
+        content: content as u64,
+        freeze: freezing,
+        check: speed(content, checking),
+    })
 }

@@ -1,5 +1,6 @@
 //! Why nothing is measured.
 
+use content_check::ContentFault;
 use idl_parse::DefFault;
 use std::alloc::AllocError;
 use std::io;
@@ -10,6 +11,7 @@ use typed_reading::ValueFault;
 pub(crate) enum Trouble {
     Definition(DefFault),
     Value(ValueFault),
+    Content(ContentFault),
     System(io::Error),
     /// A text is too long to be a definition.
     Long,
@@ -25,6 +27,12 @@ impl From<DefFault> for Trouble {
 impl From<ValueFault> for Trouble {
     fn from(fault: ValueFault) -> Trouble {
         Trouble::Value(fault)
+    }
+}
+
+impl From<ContentFault> for Trouble {
+    fn from(fault: ContentFault) -> Trouble {
+        Trouble::Content(fault)
     }
 }
 

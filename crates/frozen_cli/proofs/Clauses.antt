@@ -5,8 +5,8 @@ use Rattle.fz_base.specs.Counts.{MovesOnlyAt}
 use Rattle.fz_base.specs.Files.{Held}
 use Rattle.frozen_cli.specs.declared.refusal.Refusal.{Refusal}
 use Rattle.frozen_cli.specs.declared.refusal.Refusal.TheVariants.{Usage, Missing, Unreadable, TooLarge}
-use Rattle.frozen_cli.specs.declared.refusal.Refusal.TheVariants.{BadDefinition, BadValue, NotYetLine}
-use Rattle.frozen_cli.specs.declared.refusal.Refusal.TheVariants.{NotYetByte, NoField}
+use Rattle.frozen_cli.specs.declared.refusal.Refusal.TheVariants.{BadDefinition, BadValue, BadFile}
+use Rattle.frozen_cli.specs.declared.refusal.Refusal.TheVariants.{NotYetLine, NotYetByte, NoField}
 use Rattle.frozen_cli.specs.declared.refusal.Failure.{Failure}
 use Rattle.frozen_cli.specs.declared.refusal.Failure.TheVariants.{Refused, NoMemory}
 use Rattle.frozen_cli.specs.Stages.{HeldStageGives}
@@ -23,6 +23,7 @@ status_small (Unreadable role) = omega arith
 status_small (TooLarge role) = omega arith
 status_small (BadDefinition fault) = omega arith
 status_small (BadValue fault) = omega arith
+status_small (BadFile fault) = omega arith
 status_small (NotYetLine line) = omega arith
 status_small (NotYetByte byte) = omega arith
 status_small (NoField byte) = omega arith
@@ -35,6 +36,7 @@ unreadable_status (Unreadable role) u = refl
 unreadable_status (TooLarge role) u = absurd u
 unreadable_status (BadDefinition fault) u = absurd u
 unreadable_status (BadValue fault) u = absurd u
+unreadable_status (BadFile fault) u = absurd u
 unreadable_status (NotYetLine line) u = absurd u
 unreadable_status (NotYetByte byte) u = absurd u
 unreadable_status (NoField byte) u = absurd u
@@ -47,6 +49,7 @@ missing_status (Unreadable role) u = absurd u
 missing_status (TooLarge role) u = absurd u
 missing_status (BadDefinition fault) u = absurd u
 missing_status (BadValue fault) u = absurd u
+missing_status (BadFile fault) u = absurd u
 missing_status (NotYetLine line) u = absurd u
 missing_status (NotYetByte byte) u = absurd u
 missing_status (NoField byte) u = absurd u
@@ -82,6 +85,7 @@ module _ {T : Type 0} (view : T → List ℕ) (words : List (List ℕ)) (files :
   missing_or_unreadable (TooLarge role) g m u s e = absurd (omega (arith, s))
   missing_or_unreadable (BadDefinition fault) g m u s e = absurd (omega (arith, s))
   missing_or_unreadable (BadValue fault) g m u s e = absurd (omega (arith, s))
+  missing_or_unreadable (BadFile fault) g m u s e = absurd (omega (arith, s))
   missing_or_unreadable (NotYetLine line) g m u s e = absurd (omega (arith, s))
   missing_or_unreadable (NotYetByte byte) g m u s e = absurd (omega (arith, s))
   missing_or_unreadable (NoField byte) g m u s e = absurd (omega (arith, s))

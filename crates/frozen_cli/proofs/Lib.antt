@@ -1,10 +1,8 @@
 pub mod Clauses
 pub mod Joins
-pub mod LayoutLaws
-pub mod SchemaLaws
-pub mod PackingLaws
-pub mod LeastLaws
-pub mod FileLaws
-pub mod OpeningLaws
 pub mod FieldLaws
-pub mod NumberLaws
+pub mod Fronts
+pub mod Frozen
+pub mod ThinLayouts
+pub mod ThinRoots
+pub mod Contents

@@ -1,14 +1,9 @@
 pub mod Refusal
 pub mod Stages
 pub mod Changes
-pub mod Layout
-pub mod Numbers
-pub mod Schema
-pub mod Packing
-pub mod File
-pub mod Opening
-pub mod Path
 pub mod Definition
+pub mod Opened
+pub mod FrozenFile
 pub mod Reply
 pub mod Run
 pub mod Words

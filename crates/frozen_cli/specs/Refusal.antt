@@ -7,13 +7,16 @@ use Rattle.compact_wire.specs.declared.fault.WireFault.{WireFault}
 use Rattle.compact_wire.specs.declared.fault.WireFault.TheVariants as wire
 use Rattle.typed_reading.specs.declared.fault.ValueFault.{ValueFault}
 use Rattle.typed_reading.specs.declared.fault.ValueFault.TheVariants as value
+use Rattle.layout_schema.specs.declared.fault.SchemaFault.{SchemaFault}
+use Rattle.layout_schema.specs.declared.fault.SchemaFault.TheVariants as schemas
+use Rattle.file_check.specs.declared.fault.OpenFault.{OpenFault}
+use Rattle.file_check.specs.declared.fault.OpenFault.TheVariants as opening
 use Rattle.frozen_cli.specs.declared.refusal.Role.{Role}
 use Rattle.frozen_cli.specs.declared.refusal.Role.TheVariants.{Definition, Value, File}
 use Rattle.frozen_cli.specs.declared.refusal.Refusal.{Refusal}
 use Rattle.frozen_cli.specs.declared.refusal.Refusal.TheVariants.{Usage, Missing, Unreadable, TooLarge}
-use Rattle.frozen_cli.specs.declared.refusal.Refusal.TheVariants.{BadDefinition, BadValue, NotYetLine}
-use Rattle.frozen_cli.specs.declared.refusal.Refusal.TheVariants.{NotYetByte}
-use Rattle.frozen_cli.specs.declared.refusal.Refusal.TheVariants.{NoField}
+use Rattle.frozen_cli.specs.declared.refusal.Refusal.TheVariants.{BadDefinition, BadValue, BadFile}
+use Rattle.frozen_cli.specs.declared.refusal.Refusal.TheVariants.{NotYetLine, NotYetByte, NoField}
 use Rattle.frozen_cli.specs.declared.refusal.Failure.{Failure}
 use Rattle.frozen_cli.specs.declared.refusal.Failure.TheVariants.{Refused, NoMemory}
 
@@ -59,6 +62,30 @@ value_text (value.RepeatedKey node) = codes "5 node " ++ decimal node
 value_text (value.TooManyCells cells) = codes "6 cells " ++ decimal cells
 value_text value.NoMemory = []
 
+-- the number of a schema's fault, and the spelling's, its node, its version or its layout
+abbrev pub schema_text : SchemaFault → List ℕ
+schema_text (schemas.Spelling fault) = codes "1 wire " ++ wire_text fault
+schema_text (schemas.Fields node) = codes "2 node " ++ decimal node
+schema_text (schemas.Version version) = codes "3 version " ++ signed_decimal version
+schema_text (schemas.Shape layout) = codes "4 layout " ++ signed_decimal layout
+schema_text schemas.NoMemory = []
+
+-- the number of a file's fault, and what it tells
+abbrev pub open_text : OpenFault → List ℕ
+open_text opening.NotFrozen = codes "1"
+open_text (opening.Schema fault) = codes "2 schema " ++ schema_text fault
+open_text opening.Short = codes "3"
+open_text (opening.Long bytes) = codes "4 bytes " ++ decimal bytes
+open_text (opening.Distance bit found wanted) =
+    codes "5 bit " ++ (decimal bit ++ (codes " found " ++ (decimal found
+    ++ (codes " wanted " ++ decimal wanted))))
+open_text (opening.Dirty bit) = codes "6 bit " ++ decimal bit
+open_text (opening.BadText byte) = codes "7 byte " ++ decimal byte
+open_text (opening.KeyOrder bit) = codes "8 bit " ++ decimal bit
+open_text opening.TooManyCells = codes "9"
+open_text (opening.OutOfRange bit) = codes "10 bit " ++ decimal bit
+open_text opening.NoMemory = []
+
 -- the exit status
 abbrev pub status_of : Refusal → ℕ
 status_of Usage = 2
@@ -66,6 +93,7 @@ status_of (NoField _) = 2
 status_of (TooLarge _) = 3
 status_of (BadDefinition _) = 3
 status_of (BadValue _) = 3
+status_of (BadFile _) = 3
 status_of (NotYetLine _) = 3
 status_of (NotYetByte _) = 3
 status_of (Missing _) = 4
@@ -79,6 +107,7 @@ refusal_text (Unreadable role) = role_name role ++ codes " unreadable"
 refusal_text (TooLarge role) = role_name role ++ codes " too large"
 refusal_text (BadDefinition fault) = codes "definition " ++ fault_text fault
 refusal_text (BadValue fault) = codes "value " ++ value_text fault
+refusal_text (BadFile fault) = codes "file " ++ open_text fault
 refusal_text (NotYetLine line) = codes "notyet line " ++ decimal line
 refusal_text (NotYetByte byte) = codes "notyet byte " ++ decimal byte
 refusal_text (NoField byte) = codes "path 2 at " ++ decimal byte
@@ -99,6 +128,7 @@ IsMissing (Unreadable _) = ⊥
 IsMissing (TooLarge _) = ⊥
 IsMissing (BadDefinition _) = ⊥
 IsMissing (BadValue _) = ⊥
+IsMissing (BadFile _) = ⊥
 IsMissing (NotYetLine _) = ⊥
 IsMissing (NotYetByte _) = ⊥
 IsMissing (NoField _) = ⊥
@@ -111,6 +141,7 @@ IsUnreadable (Missing _) = ⊥
 IsUnreadable (TooLarge _) = ⊥
 IsUnreadable (BadDefinition _) = ⊥
 IsUnreadable (BadValue _) = ⊥
+IsUnreadable (BadFile _) = ⊥
 IsUnreadable (NotYetLine _) = ⊥
 IsUnreadable (NotYetByte _) = ⊥
 IsUnreadable (NoField _) = ⊥

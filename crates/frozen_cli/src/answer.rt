@@ -1,20 +1,26 @@
 // What a command answers, stage after stage, before anything is written.
-ghost use Rattle.std.specs.Prelude.{◌≡◌, IfOk, length, map, string_bytes};
+ghost use Rattle.std.specs.Prelude.{◌≡◌, ◌≤◌, ◌<◌, ◌^◌, IfOk, IsErrAnd, length, map, string_bytes};
 ghost use Rattle.idl_profile.specs.Types.{root_of};
 ghost use Rattle.idl_parse.specs.Parsed.{definition_of};
-ghost use Rattle.frozen_model.specs.Values.{Of};
+ghost use Rattle.frozen_model.specs.Trees.{kinds};
+ghost use Rattle.frozen_model.specs.Values.{Of, cells, cell_limit};
+ghost use Rattle.layout_tree.specs.Nodes.{layout_of};
 ghost use Rattle.type_kinds.specs.KindsOf.{kinds_of};
 ghost use Rattle.typed_tree.specs.References.{value_of_tree};
-ghost use Rattle.frozen_cli.specs.Definition.{field_count, HasThinRoot};
-ghost use Rattle.frozen_cli.specs.Stages.{HeldStageGives};
+ghost use Rattle.frozen_cli.specs.Definition.{field_count, HasThinRoot, thin_kinds};
+ghost use Rattle.frozen_cli.specs.Opened.{value_held};
+ghost use Rattle.frozen_cli.specs.Refusal.{IsRefused, IsReading};
+ghost use Rattle.frozen_cli.specs.Stages.{StageGives, HeldStageGives};
 ghost use Rattle.frozen_cli.specs.Changes.{seen, ReadsFiles};
-ghost use Rattle.frozen_cli.specs.Reply.{DefinitionIn, ThinDefinitionIn, ValueIn, FileIn, PartUnder, PartIn};
+ghost use Rattle.frozen_cli.specs.Reply.{DefinitionIn, ThinDefinitionIn, ValueIn, ValueUnder};
+ghost use Rattle.frozen_cli.specs.Reply.{ShowsNamed, PartOf, PartUnder, PartIn};
 ghost use Rattle.frozen_cli.specs.Reply.{FrozenUnder, FreezeGives, GetGives, PrintGives, CommandGives};
 
 use crate::path::field_name;
 use crate::refusal::{Failure, Role};
 use crate::stages::{self, read_role};
 use crate::words::{Command, parse_words};
+use file_check::Opened;
 use fz_base::Files;
 use std::alloc::Global;
 use thrift_idl::Definition;
@@ -39,7 +45,7 @@ fn definition_in<F: Files>(alloc: Global, files: &mut F, name: &str) -> Result<D
     stages::definition(alloc, &text)
 }
 
-/// The definition in a named file, with a root of the form that is built.
+/// The definition in a named file, with a root of the form that `get` takes.
 fn thin_definition_in<F: Files>(
     alloc: Global,
     files: &mut F,
@@ -63,29 +69,14 @@ fn value_in<F: Files>(
 ) -> Result<Tree, Failure>
     ensures kinds { IfOk result (λ tree.
         Of (kinds_of (root_of (definition_of def.now))) (value_of_tree tree)) }
+    ensures few { IfOk result (λ tree.
+        cells (kinds_of (root_of (definition_of def.now))) (value_of_tree tree) ≤ cell_limit) }
     ensures gives { HeldStageGives (F.held files.old) value_of_tree
         (λ held. ValueIn (definition_of def.now) (held name.now)) result }
     ensures reads { ReadsFiles (seen F.held F.misses F.faults files.old files.new) result }
 {
     let bytes = read_role(alloc, files, Role::Value, name, MAX_VALUE)?;
     stages::value(alloc, def, &bytes)
-}
-
-/// The value that a named frozen file holds.
-fn file_in<F: Files>(
-    alloc: Global,
-    files: &mut F,
-    def: &Definition,
-    name: &str,
-) -> Result<Vec<i32>, Failure>
-    requires { HasThinRoot (definition_of def.now) }
-    ensures fields { IfOk result (λ xs. length xs.items ≡ field_count (definition_of def.now)) }
-    ensures gives { HeldStageGives (F.held files.old) (λ xs. xs.items)
-        (λ held. FileIn (definition_of def.now) (held name.now)) result }
-    ensures reads { ReadsFiles (seen F.held F.misses F.faults files.old files.new) result }
-{
-    let bytes = read_role(alloc, files, Role::File, name, MAX_FILE)?;
-    stages::file(alloc, def, &bytes)
 }
 
 /// The frozen file of the value in a named file, under a definition.
@@ -95,7 +86,6 @@ fn frozen_under<F: Files>(
     value: &str,
     def: &Definition,
 ) -> Result<Vec<u8>, Failure>
-    requires { HasThinRoot (definition_of def.now) }
     ensures gives { HeldStageGives (F.held files.old) (λ out. out.items)
         (λ held. FrozenUnder held value.now (definition_of def.now)) result }
     ensures reads { ReadsFiles (seen F.held F.misses F.faults files.old files.new) result }
@@ -115,8 +105,51 @@ fn freeze<F: Files>(
         (λ held. FreezeGives held def.now value.now) result }
     ensures reads { ReadsFiles (seen F.held F.misses F.faults files.old files.new) result }
 {
-    let def = thin_definition_in(alloc, files, def)?;
+    let def = definition_in(alloc, files, def)?;
     frozen_under(alloc, files, value, &def)
+}
+
+/// What the bytes of a frozen file hold, where it is of the kinds of the definition's root.
+fn opened_under<'a>(alloc: Global, def: &Definition, bytes: &'a [u8]) -> Result<Opened<'a>, Failure>
+    requires root { HasThinRoot (definition_of def.now) }
+    requires bytes { length bytes.now < 2 ^ 56 }
+    ensures gives { StageGives value_held (ValueUnder (definition_of def.now) bytes.now) result }
+    ensures thin { IfOk result (λ o.
+        kinds (layout_of o.layouts).tree ≡ thin_kinds (field_count (definition_of def.now))) }
+    ensures no_file { IsErrAnd result (IsRefused IsReading) → ⊥ }
+{
+    let file = stages::file(alloc, bytes)?;
+    stages::bind(def, file)
+}
+
+/// The text of the field of that name in an opened file, which is of the kinds of the definition's root.
+fn field_in(
+    alloc: Global,
+    def: &Definition,
+    opened: &Opened<'_>,
+    name: &str,
+) -> Result<Vec<u8>, Failure>
+    requires root { HasThinRoot (definition_of def.now) }
+    requires thin { kinds (layout_of opened.now.layouts).tree
+        ≡ thin_kinds (field_count (definition_of def.now)) }
+    ensures gives { StageGives (λ out. out.items)
+        (ShowsNamed (definition_of def.now) name.now (value_held opened.now)) result }
+    ensures no_file { IsErrAnd result (IsRefused IsReading) → ⊥ }
+{
+    let id = stages::find_field(def, name)?;
+    stages::show(alloc, opened, id)
+}
+
+/// The text of the field of that name in the bytes of a frozen file.
+fn part_of(alloc: Global, def: &Definition, bytes: &[u8], name: &str) -> Result<Vec<u8>, Failure>
+    requires root { HasThinRoot (definition_of def.now) }
+    requires bytes { length bytes.now < 2 ^ 56 }
+    ensures gives { StageGives (λ out. out.items)
+        (PartOf (definition_of def.now) name.now bytes.now) result }
+    ensures no_file { IsErrAnd result (IsRefused IsReading) → ⊥ }
+{
+    let opened = opened_under(alloc, def, bytes)?;
+    field_in(alloc, def, &opened, name)
 }
 
 /// The text of the field of that name in a frozen file.
@@ -132,9 +165,8 @@ fn part_under<F: Files>(
         (λ held. PartUnder held file.now (definition_of def.now) name.now) result }
     ensures reads { ReadsFiles (seen F.held F.misses F.faults files.old files.new) result }
 {
-    let value = file_in(alloc, files, def, file)?;
-    let id = stages::find_field(def, name)?;
-    stages::show(alloc, &value, id)
+    let bytes = read_role(alloc, files, Role::File, file, MAX_FILE)?;
+    part_of(alloc, def, &bytes, name)
 }
 
 /// The text of the field of that name in a frozen file, under the definition in a named file.

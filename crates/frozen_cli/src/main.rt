@@ -3,13 +3,10 @@
 
 mod answer;
 mod deliver;
-mod file;
-mod layout;
-mod pack;
+mod frozen_file;
 mod path;
 mod refusal;
 mod run;
-mod schema;
 mod stages;
 mod thin;
 mod words;

@@ -1,8 +1,8 @@
 // Paths of one field step: a dot and a name.
 ghost use Rattle.std.specs.Prelude.{◌≡◌, IsErrAnd};
 ghost use Rattle.std.specs.List.{list_all};
-ghost use Rattle.frozen_cli.specs.Path.{begins_name as begins_word, continues_name as continues_word};
-ghost use Rattle.frozen_cli.specs.Path.{is_name as is_word};
+ghost use Rattle.idl_tokens.specs.Characters.{is_word_start};
+ghost use Rattle.path_text.specs.Texts.{is_name_character, is_name as is_field_name};
 ghost use Rattle.frozen_cli.specs.Stages.{StageGives};
 ghost use Rattle.frozen_cli.specs.Refusal.{IsRefused, IsReading};
 ghost use Rattle.frozen_cli.specs.Reply.{PathStage};
@@ -11,21 +11,21 @@ use crate::refusal::{Failure, Refusal};
 
 /// A letter or `_`.
 fn begins_name(byte: u8) -> bool
-    ensures { result ≡ begins_word byte }
+    ensures { result ≡ is_word_start byte }
 {
     byte.is_ascii_alphabetic() || byte == b'_'
 }
 
 /// A letter, a digit or `_`.
 fn continues_name(byte: u8) -> bool
-    ensures { result ≡ continues_word byte }
+    ensures { result ≡ is_name_character byte }
 {
     begins_name(byte) || byte.is_ascii_digit()
 }
 
 /// Whether all of them continue a name.
 fn all_continue(bytes: &[u8]) -> bool
-    ensures { result ≡ list_all continues_word bytes.now }
+    ensures { result ≡ list_all is_name_character bytes.now }
 {
     for &byte in bytes {
         if !continues_name(byte) {
@@ -37,7 +37,7 @@ fn all_continue(bytes: &[u8]) -> bool
 
 /// Letters, digits and `_`, the first no digit.
 fn is_name(bytes: &[u8]) -> bool
-    ensures { result ≡ is_word bytes.now }
+    ensures { result ≡ is_field_name bytes.now }
 {
     match bytes {
         [] => false,

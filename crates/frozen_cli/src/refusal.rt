@@ -3,6 +3,8 @@ ghost use Rattle.std.specs.Prelude.{◌≡◌, Some, IfOk, string_bytes};
 ghost use Rattle.frozen_cli.specs.declared.refusal.Failure.TheVariants.{NoMemory};
 
 use compact_wire::WireFault;
+use file_check::OpenFault;
+use layout_schema::SchemaFault;
 use std::alloc::{AllocError, AllocFailed, Global};
 use std::fmt;
 use thrift_idl::DefFault;
@@ -34,6 +36,8 @@ pub enum Refusal {
     BadDefinition(DefFault),
     /// The bytes spell no value of the root's type; why, never a want of memory.
     BadValue(ValueFault),
+    /// The bytes are no value's frozen file; the first fault, never a want of memory.
+    BadFile(OpenFault),
     /// The definition has a form that is not built yet; the line, from 1.
     NotYetLine(u32),
     /// The bytes have a form that is not built yet; the place, from 0.
@@ -156,6 +160,56 @@ impl fmt::Display for ValueText<'_> {
     }
 }
 
+/// The number of a schema's fault, and the spelling's, its node, its version or its layout.
+#[derive(Clone, Copy)]
+struct SchemaText<'a>(&'a SchemaFault);
+
+impl fmt::Display for SchemaText<'_> {
+    ghost use Rattle.std.specs.Prelude.{Some};
+    ghost use Rattle.frozen_cli.specs.Refusal.{schema_text};
+
+    ghost output = { λ it. Some (schema_text it.0.now) };
+
+    fn fmt<W: fmt::Write>(&self, f: &mut fmt::Formatter<W>) -> fmt::Result {
+        match self.0 {
+            SchemaFault::Spelling(fault) => write!(f, "1 wire {}", WireText(fault)),
+            SchemaFault::Fields(node) => write!(f, "2 node {node}"),
+            SchemaFault::Version(version) => write!(f, "3 version {version}"),
+            SchemaFault::Shape(layout) => write!(f, "4 layout {layout}"),
+            SchemaFault::NoMemory => Ok(()),
+        }
+    }
+}
+
+/// The number of a file's fault, and what it tells.
+#[derive(Clone, Copy)]
+struct OpenText<'a>(&'a OpenFault);
+
+impl fmt::Display for OpenText<'_> {
+    ghost use Rattle.std.specs.Prelude.{Some};
+    ghost use Rattle.frozen_cli.specs.Refusal.{open_text};
+
+    ghost output = { λ it. Some (open_text it.0.now) };
+
+    fn fmt<W: fmt::Write>(&self, f: &mut fmt::Formatter<W>) -> fmt::Result {
+        match self.0 {
+            OpenFault::NotFrozen => write!(f, "1"),
+            OpenFault::Schema(fault) => write!(f, "2 schema {}", SchemaText(fault)),
+            OpenFault::Short => write!(f, "3"),
+            OpenFault::Long(bytes) => write!(f, "4 bytes {bytes}"),
+            OpenFault::Distance { bit, found, wanted } => {
+                write!(f, "5 bit {bit} found {found} wanted {wanted}")
+            }
+            OpenFault::Dirty(bit) => write!(f, "6 bit {bit}"),
+            OpenFault::BadText(byte) => write!(f, "7 byte {byte}"),
+            OpenFault::KeyOrder(bit) => write!(f, "8 bit {bit}"),
+            OpenFault::TooManyCells => write!(f, "9"),
+            OpenFault::OutOfRange(bit) => write!(f, "10 bit {bit}"),
+            OpenFault::NoMemory => Ok(()),
+        }
+    }
+}
+
 impl fmt::Display for Refusal {
     ghost use Rattle.std.specs.Prelude.{Some};
     ghost use Rattle.frozen_cli.specs.Refusal.{refusal_text};
@@ -170,6 +224,7 @@ impl fmt::Display for Refusal {
             Refusal::TooLarge(role) => write!(f, "{role} too large"),
             Refusal::BadDefinition(fault) => write!(f, "definition {}", FaultText(*fault)),
             Refusal::BadValue(fault) => write!(f, "value {}", ValueText(fault)),
+            Refusal::BadFile(fault) => write!(f, "file {}", OpenText(fault)),
             Refusal::NotYetLine(line) => write!(f, "notyet line {line}"),
             Refusal::NotYetByte(byte) => write!(f, "notyet byte {byte}"),
             Refusal::NoField(byte) => write!(f, "path 2 at {byte}"),
@@ -189,6 +244,7 @@ impl Refusal {
             Refusal::TooLarge(_)
             | Refusal::BadDefinition(_)
             | Refusal::BadValue(_)
+            | Refusal::BadFile(_)
             | Refusal::NotYetLine(_)
             | Refusal::NotYetByte(_) => 3,
             Refusal::Missing(_) | Refusal::Unreadable(_) => 4,

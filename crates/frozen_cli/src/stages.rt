@@ -3,20 +3,24 @@ ghost use Rattle.std.specs.Prelude.{◌≡◌, ◌≤◌, ◌<◌, ◌^◌, leng
 ghost use Rattle.frozen_cli.specs.Changes.{seen, ReadsFiles};
 ghost use Rattle.frozen_cli.specs.Stages.{StageGives, HeldStageGives, ReadStage};
 ghost use Rattle.frozen_cli.specs.Refusal.{IsRefused, IsReading};
-ghost use Rattle.frozen_cli.specs.Definition.{field_count, IsIdOf, HasThinRoot};
-ghost use Rattle.frozen_cli.specs.Reply.{DefinitionStage, RootStage, ValueStage, FileStage, FieldStage};
-ghost use Rattle.frozen_cli.specs.Reply.{Freezes, Shows, Writes};
-ghost use Rattle.frozen_model.specs.Values.{Of};
+ghost use Rattle.frozen_cli.specs.Definition.{field_count, IsIdOf, HasThinRoot, HasNumber, thin_kinds};
+ghost use Rattle.frozen_cli.specs.Opened.{value_held, file_held};
+ghost use Rattle.frozen_cli.specs.Reply.{DefinitionStage, RootStage, ValueStage, FileStage, BindStage};
+ghost use Rattle.frozen_cli.specs.Reply.{FieldStage, Freezes, Shows, Writes};
+ghost use Rattle.frozen_model.specs.Trees.{kinds};
+ghost use Rattle.frozen_model.specs.Values.{Of, cells, cell_limit};
+ghost use Rattle.layout_tree.specs.Nodes.{layout_of};
 ghost use Rattle.type_kinds.specs.KindsOf.{kinds_of};
 ghost use Rattle.typed_tree.specs.References.{value_of_tree};
 ghost use Rattle.idl_profile.specs.Types.{root_of};
 ghost use Rattle.idl_print.specs.Printed.{printed as printed_text};
 ghost use Rattle.idl_parse.specs.Parsed.{definition_of};
 
-use crate::file::{freeze, open};
+use crate::frozen_file::frozen_file;
 use crate::refusal::{Failure, Refusal, Role};
-use crate::thin::{field_numbers, has_thin_root};
+use crate::thin::{has_thin_root, is_thin_layout, number_at};
 use compact_codec::decode;
+use file_check::{OpenFault, Opened, open_frozen};
 use fz_base::{Files, ReadFault, read_whole};
 use std::alloc::Global;
 use thrift_idl::{DefFault, Definition, parse, print};
@@ -67,7 +71,7 @@ pub fn printed(alloc: Global, def: &Definition) -> Result<Vec<u8>, Failure>
     Ok(print(alloc, def)?.into_bytes())
 }
 
-/// Passes on a definition whose root has the form that is built, and refuses every other.
+/// Passes on a definition whose root has the form that `get` takes, and refuses every other.
 pub fn thin_root(def: Definition) -> Result<Definition, Failure>
     ensures gives { StageGives definition_of (RootStage (definition_of def)) result }
     ensures root { IfOk result (λ d. HasThinRoot (definition_of d)) }
@@ -85,6 +89,8 @@ pub fn value(alloc: Global, def: &Definition, bytes: &[u8]) -> Result<Tree, Fail
     ensures gives { StageGives value_of_tree (ValueStage (definition_of def.now) bytes.now) result }
     ensures kinds { IfOk result (λ tree.
         Of (kinds_of (root_of (definition_of def.now))) (value_of_tree tree)) }
+    ensures few { IfOk result (λ tree.
+        cells (kinds_of (root_of (definition_of def.now))) (value_of_tree tree) ≤ cell_limit) }
     ensures no_file { IsErrAnd result (IsRefused IsReading) → ⊥ }
 {
     match decode(alloc, def.root(), bytes) {
@@ -96,27 +102,41 @@ pub fn value(alloc: Global, def: &Definition, bytes: &[u8]) -> Result<Tree, Fail
 
 /// The frozen file of a value in its least layout.
 pub fn freeze_value(alloc: Global, def: &Definition, value: &Tree) -> Result<Vec<u8>, Failure>
-    requires root { HasThinRoot (definition_of def.now) }
-    requires kinds { Of (kinds_of (root_of (definition_of def.now))) (value_of_tree value.now) }
+    requires form { Of (kinds_of (root_of (definition_of def.now))) (value_of_tree value.now) }
+    requires few { cells (kinds_of (root_of (definition_of def.now))) (value_of_tree value.now) ≤ cell_limit }
     ensures gives { StageGives (λ out. out.items)
         (Freezes (definition_of def.now) (value_of_tree value.now)) result }
     ensures no_file { IsErrAnd result (IsRefused IsReading) → ⊥ }
 {
-    let numbers = field_numbers(alloc, def, value.top())?;
-    Ok(freeze(alloc, &numbers)?)
+    Ok(frozen_file(alloc, def, value.top())?)
 }
 
-/// The value that a frozen file holds: a number for each field of the definition's root.
-pub fn file(alloc: Global, def: &Definition, bytes: &[u8]) -> Result<Vec<i32>, Failure>
-    requires { HasThinRoot (definition_of def.now) }
-    ensures gives { StageGives (λ xs. xs.items) (FileStage (definition_of def.now) bytes.now) result }
-    ensures fields { IfOk result (λ xs. length xs.items ≡ field_count (definition_of def.now)) }
+/// The layout and the content of a frozen file.
+pub fn file(alloc: Global, bytes: &[u8]) -> Result<Opened<'_>, Failure>
+    requires { length bytes.now < 2 ^ 56 }
+    ensures gives { StageGives file_held (FileStage bytes.now) result }
     ensures no_file { IsErrAnd result (IsRefused IsReading) → ⊥ }
 {
-    match open(alloc, def.root().field_count() as usize, bytes) {
-        Ok(Some(numbers)) => Ok(numbers),
-        Ok(None) => Err(Failure::Refused(Refusal::NotYetByte(0))),
-        Err(_) => Err(Failure::NoMemory),
+    match open_frozen(alloc, bytes) {
+        Ok(opened) => Ok(opened),
+        Err(OpenFault::NoMemory) => Err(Failure::NoMemory),
+        Err(fault) => Err(Failure::Refused(Refusal::BadFile(fault))),
+    }
+}
+
+/// Passes on an opened file whose layout is of the kinds of the definition's root, and refuses every other.
+pub fn bind<'a>(def: &Definition, opened: Opened<'a>) -> Result<Opened<'a>, Failure>
+    requires { HasThinRoot (definition_of def.now) }
+    ensures gives { StageGives value_held
+        (BindStage (definition_of def.now) (file_held opened.entry)) result }
+    ensures thin { IfOk result (λ o.
+        kinds (layout_of o.layouts).tree ≡ thin_kinds (field_count (definition_of def.now))) }
+    ensures no_file { IsErrAnd result (IsRefused IsReading) → ⊥ }
+{
+    if is_thin_layout(&opened.layouts, def.root().field_count()) {
+        Ok(opened)
+    } else {
+        Err(Failure::Refused(Refusal::NotYetByte(0)))
     }
 }
 
@@ -133,12 +153,12 @@ pub fn find_field(def: &Definition, name: &str) -> Result<i16, Failure>
     }
 }
 
-/// The text of a field's number, with a newline.
-pub fn show(alloc: Global, value: &[i32], id: i16) -> Result<Vec<u8>, Failure>
-    requires { IsIdOf (length value.now) id }
-    ensures gives { StageGives (λ out. out.items) (Shows value.now id) result }
+/// The text of the number of the field with this id, with a newline.
+pub fn show(alloc: Global, opened: &Opened<'_>, id: i16) -> Result<Vec<u8>, Failure>
+    requires { HasNumber (layout_of opened.now.layouts).tree id }
+    ensures gives { StageGives (λ out. out.items) (Shows (value_held opened.now) id) result }
     ensures no_file { IsErrAnd result (IsRefused IsReading) → ⊥ }
 {
-    let number = value[id as usize - 1];
+    let number = number_at(&opened.layouts, opened.content, id);
     Ok(format!(in alloc; "{number}\n")?.into_bytes())
 }

@@ -5,16 +5,30 @@ use std::alloc::{AllocError, Global};
 use std::io::{self, ErrorKind};
 use std::test::Fail;
 
-// The file of 5 and -1: magic and length, schema, content.
-const FILE: &[u8] =
+// The file of 5 and -1 in version 1: magic and length, schema, content.
+const FIRST: &[u8] =
     b"FZ2P\x40\0\0\0\x12\x1B\x03\x4C\0\x15\0\x14\x0A\x1B\x02\x4C\x02\x14\x02\x14\0\0\x04\x14\x04\x14\x07\0\
     \x18\x06struct\0\x02\x15\0\x14\x08\x1B\0\x18\x03i32\0\x04\x15\0\x14\x02\x1B\0\x18\x03i32\0\x14\0\
     \x15\x02\0\x15";
 
-// The file of 0 and 0, which has no content.
+// The same in version 2, where each number is its base.
+const FILE: &[u8] =
+    b"FZ2PF\0\0\0\x11\x1B\x03L\0\x15\0\x14\0\x1B\x02L\x02\x14\x02\x14\0\0\x04\x14\x04\x14\0\0\x18\x06struc\
+    t\x16\0\0\x02\x15\0\x14\0\x1B\0\x18\x03i32\x16\x0A\0\x04\x15\0\x14\0\x1B\0\x18\x03i32\x16\x01\0\x14\
+    \0\x15\x04\0";
+
+// The file of 0 and 0.
 const ZEROS: &[u8] =
-    b"FZ2P\x40\0\0\0\x12\x1B\x03\x4C\0\x15\0\x14\0\x1B\x02\x4C\x02\x14\x02\x14\0\0\x04\x14\x04\x14\0\0\
-    \x18\x06struct\0\x02\x15\0\x14\0\x1B\0\x18\x03i32\0\x04\x15\0\x14\0\x1B\0\x18\x03i32\0\x14\0\x15\x02\0";
+    b"FZ2PF\0\0\0\x11\x1B\x03L\0\x15\0\x14\0\x1B\x02L\x02\x14\x02\x14\0\0\x04\x14\x04\x14\0\0\x18\x06struc\
+    t\x16\0\0\x02\x15\0\x14\0\x1B\0\x18\x03i32\x16\0\0\x04\x15\0\x14\0\x1B\0\x18\x03i32\x16\0\0\x14\0\
+    \x15\x04\0";
+
+// The file of a list of 1000, 1001 and 1003.
+const LIST: &[u8] =
+    b"FZ2Pu\0\0\0\x11\x1B\x05L\0\x15\0\x14\x06\x1B\x01L\x02\x14\x02\x14\0\0\x18\x06struct\x16\0\0\x02\x15\
+    \0\x14\x06\x1B\x03L\x02\x14\x04\x14\0\0\x04\x14\x06\x14\x01\0\x06\x14\x08\x14\0\0\x18\x04list\x16\0\
+    \0\x04\x15\0\x14\x02\x1B\0\x18\x04size\x16\0\0\x06\x15\0\x14\x04\x1B\0\x18\x04size\x16\0\0\x08\x15\0\
+    \x14\x04\x1B\0\x18\x03i32\x16\xD0\x0F\0\x14\0\x15\x04\0\x074";
 
 // A run's status, and what it wrote to out and to err.
 #[derive(Drop)]
@@ -35,7 +49,7 @@ struct Faults {
 const NO_FAULTS: Faults = Faults {
     read: 0,
     write: 0,
-    room: 100,
+    room: 200,
 };
 
 // A list of so many bytes.
@@ -53,7 +67,11 @@ fn files_of(alloc: Global, fail: u64) -> Result<MemFiles, AllocError> {
         ("def", b"struct P {1: i32 x; 2: i32 y}".as_slice()),
         ("value", b"\x15\x0A\x15\x01\0".as_slice()),
         ("file", FILE),
+        ("first", FIRST),
+        ("cut", &FIRST[..7]),
         ("list", b"struct P {1: list<i32> x}".as_slice()),
+        ("items", b"\x19\x35\xD0\x0F\xD2\x0F\xD6\x0F\0".as_slice()),
+        ("list_file", LIST),
         ("lenient", b"\x05\x02\x8A\0\x05\x04\x01\0".as_slice()),
         ("none", b"\0".as_slice()),
         ("short", b"\x15\x0A\x15\x01".as_slice()),
@@ -69,6 +87,19 @@ fn files_of(alloc: Global, fail: u64) -> Result<MemFiles, AllocError> {
         files.push((String::from_str(alloc, name)?, bytes.to_vec(alloc)?))?;
     }
     files.push((String::from_str(alloc, "long")?, filled(alloc, 1_048_577)?))?;
+    for (name, place, byte) in [
+        ("no_schema", 4, 0x42),
+        ("trailing", 4, 0x41),
+        ("third", 70, 6),
+        ("child", 22, 0),
+        ("dirty", 72, 0x35),
+    ] {
+        let mut bytes = FIRST.to_vec(alloc)?;
+        if let Some(changed) = bytes.get_mut(place) {
+            *changed = byte;
+        }
+        files.push((String::from_str(alloc, name)?, bytes))?;
+    }
     Ok(MemFiles::new(files, 2_000_000, vec![in alloc; fail]?))
 }
 
@@ -120,13 +151,43 @@ fn runs_end_as_they_should(rt: HostRuntime) -> Result<(), Fail> {
         ("freeze def value", 0, FILE, ""),
         ("freeze def lenient", 0, FILE, ""),
         ("freeze def none", 0, ZEROS, ""),
+        ("freeze list items", 0, LIST, ""),
         ("get def file .x", 0, b"5\n".as_slice(), ""),
         ("get def file .y", 0, b"-1\n".as_slice(), ""),
+        ("get def first .x", 0, b"5\n".as_slice(), ""),
+        ("get def first .y", 0, b"-1\n".as_slice(), ""),
         ("get def file .z", 2, b"".as_slice(), "path 2 at 0\n"),
         ("get def file x", 3, b"".as_slice(), "notyet byte 0\n"),
         ("get gone gone .", 3, b"".as_slice(), "notyet byte 0\n"),
         ("get def gone .x", 4, b"".as_slice(), "file missing\n"),
-        ("get def value .z", 3, b"".as_slice(), "notyet byte 0\n"),
+        ("get def list_file .x", 3, b"".as_slice(), "notyet byte 0\n"),
+        (
+            "get list list_file .x",
+            3,
+            b"".as_slice(),
+            "notyet line 1\n",
+        ),
+        ("get def cut .z", 3, b"".as_slice(), "file 1\n"),
+        ("get def no_schema .x", 3, b"".as_slice(), "file 3\n"),
+        (
+            "get def trailing .x",
+            3,
+            b"".as_slice(),
+            "file 2 schema 1 wire 3 at 64\n",
+        ),
+        (
+            "get def third .x",
+            3,
+            b"".as_slice(),
+            "file 2 schema 3 version 3\n",
+        ),
+        (
+            "get def child .x",
+            3,
+            b"".as_slice(),
+            "file 2 schema 4 layout 1\n",
+        ),
+        ("get def dirty .x", 3, b"".as_slice(), "file 6 bit 5\n"),
         (
             "freeze gone gone",
             4,
@@ -139,7 +200,7 @@ fn runs_end_as_they_should(rt: HostRuntime) -> Result<(), Fail> {
             b"".as_slice(),
             "definition too large\n",
         ),
-        ("freeze list gone", 3, b"".as_slice(), "notyet line 1\n"),
+        ("freeze list gone", 4, b"".as_slice(), "value missing\n"),
         (
             "freeze open gone",
             3,
@@ -187,7 +248,7 @@ fn runs_end_as_they_should(rt: HostRuntime) -> Result<(), Fail> {
     Ok(())
 }
 
-// A run reads each of its two files in two reads, and writes the file of 73 bytes in eight writes.
+// A run reads each of its two files in two reads, and writes the file of 78 bytes in eight writes.
 #[test]
 fn each_fault_has_its_line(rt: HostRuntime) -> Result<(), Fail> {
     let alloc = rt.alloc();
@@ -224,7 +285,7 @@ fn each_fault_has_its_line(rt: HostRuntime) -> Result<(), Fail> {
         },
     )?;
     assert_eq!(rt; ran.status, 5);
-    assert_eq!(rt; ran.out.bytes(), b"FZ2P\x40\0\0\0\x12\x1B".as_slice());
+    assert_eq!(rt; ran.out.bytes(), b"FZ2P\x46\0\0\0\x11\x1B".as_slice());
     assert_eq!(rt; ran.err.bytes(), b"write failed\n".as_slice());
     Ok(())
 }

@@ -1,19 +1,23 @@
-// The form of a root that is built: from 1 to 60 plain fields of type i32 with the ids from 1 on and no
-// defaults; and the numbers of its values.
-ghost use Rattle.std.specs.Prelude.{◌≡◌, ◌↔◌, IsTrue, IfOk, length};
-ghost use Rattle.idl_profile.specs.Types.{without, root_of};
+// The form of a root that `get` takes: from 1 to 60 plain fields of type i32 with the ids from 1 on and no
+// defaults. Its layouts, and the numbers in their contents.
+ghost use Rattle.std.specs.Prelude.{◌≡◌, ◌↔◌, ◌≤◌, IsTrue, IsSomeAnd, pos};
+ghost use Rattle.idl_profile.specs.Types.{without};
 ghost use Rattle.idl_parse.specs.Parsed.{definition_of};
 ghost use Rattle.idl_parse.specs.Refs.{field_of_ref, default_of_ref};
-ghost use Rattle.frozen_model.specs.Values.{Of};
-ghost use Rattle.type_kinds.specs.KindsOf.{kinds_of};
-ghost use Rattle.typed_tree.specs.References.{value_of_ref};
-ghost use Rattle.frozen_cli.specs.Definition.{field_count, IsThinField, HasThinRoot};
-ghost use Rattle.frozen_cli.specs.Numbers.{numbers_of};
+ghost use Rattle.frozen_model.specs.Trees.{kinds};
+ghost use Rattle.layout_tree.specs.Nodes.{layout_of};
+ghost use Rattle.typed_tree.specs.Parts.{field_of};
+ghost use Rattle.compact_codec.specs.Wire.{number_in};
+ghost use Rattle.frozen_cli.specs.Definition.{IsThinField, HasThinRoot, HasNumber, thin_kinds};
+ghost use Rattle.file_check.specs.Held.{HoldsValue};
+ghost use Rattle.frozen_cli.specs.Opened.{value_in};
 
-use crate::layout::MAX_FIELDS;
-use std::alloc::{AllocError, Global};
+use bit_field::{read_bits, read_signed};
+use layout_tree::{Kind, Layouts, NodeSpec, layouts_are_described};
 use thrift_idl::{DefaultRef, Definition, FieldRef, Need, TypeKind};
-use typed_tree::TreeRef;
+
+/// The most fields of such a root.
+const MAX_FIELDS: u32 = 60;
 
 /// Whether a field may be there or not, and has a value anyway.
 fn is_plain(need: Need) -> bool
@@ -59,7 +63,7 @@ fn is_bare(default: DefaultRef<'_>) -> bool
     }
 }
 
-/// Whether a field is of the form that is built and has that id.
+/// Whether a field is of the form that is taken and has that id.
 fn is_thin_field(field: FieldRef<'_>, id: u16) -> bool
     ensures { IsTrue result ↔ IsThinField id (field_of_ref field.entry) }
 {
@@ -75,7 +79,7 @@ fn is_thin_field(field: FieldRef<'_>, id: u16) -> bool
     is_bare(field.default())
 }
 
-/// Whether the root of a definition is of the form that is built.
+/// Whether the root of a definition is of the form that `get` takes.
 pub fn has_thin_root(def: &Definition) -> bool
     ensures { IsTrue result ↔ HasThinRoot (definition_of def.now) }
 {
@@ -84,7 +88,7 @@ pub fn has_thin_root(def: &Definition) -> bool
     if count == 0 {
         return false;
     }
-    if count > MAX_FIELDS as u32 {
+    if count > MAX_FIELDS {
         return false;
     }
     for place in 0..count {
@@ -95,21 +99,51 @@ pub fn has_thin_root(def: &Definition) -> bool
     true
 }
 
-/// The numbers of a value of such a root: that of each field, by rising id.
-pub fn field_numbers(
-    alloc: Global,
-    def: &Definition,
-    value: TreeRef<'_>,
-) -> Result<Vec<i32>, AllocError>
-    requires root { HasThinRoot (definition_of def.now) }
-    requires kinds { Of (kinds_of (root_of (definition_of def.now))) (value_of_ref value) }
-    ensures numbers { IfOk result (λ xs. xs.items ≡ numbers_of (value_of_ref value.entry)) }
-    ensures fields { IfOk result (λ xs. length xs.items ≡ field_count (definition_of def.now)) }
+/// Whether a node is that of an i32 field with this number as its id.
+fn is_number_field(spec: &NodeSpec, id: u32) -> bool
+    ensures { IsTrue result ↔ ((spec.now.kind ≡ Kind.I32) × (spec.now.field ≡ pos id)) }
 {
-    let count = def.root().field_count();
-    let mut numbers = Vec::with_capacity(alloc, count as usize)?;
-    for place in 0..count {
-        numbers.push(value.field_at(u64::from(place)).int() as i32)?;
+    if i64::from(spec.field) != i64::from(id) {
+        return false;
     }
-    Ok(numbers)
+    match spec.kind {
+        Kind::I32 => true,
+        _ => false,
+    }
+}
+
+/// Whether a layout is of the kinds of a struct of so many i32 fields with the ids from 1 on.
+pub fn is_thin_layout(layouts: &Layouts, fields: u32) -> bool
+    requires { fields ≤ MAX_FIELDS }
+    ensures { IsTrue result ↔ (kinds (layout_of layouts.now).tree ≡ thin_kinds fields) }
+{
+    layouts_are_described(layouts);
+    if layouts.count() != fields + 1 {
+        return false;
+    }
+    for node in 1..layouts.count() {
+        if !is_number_field(&layouts.node(node), node) {
+            return false;
+        }
+    }
+    true
+}
+
+/// The number of the field with this id, read in place in a content of such a struct. As each field is one
+/// node of the layout, the id is the number of the field's node too.
+pub fn number_at(layouts: &Layouts, content: &[u8], id: i16) -> i64
+    requires held { ∥ HoldsValue (layout_of layouts.now).tree content.now ∥₁ }
+    requires field { HasNumber (layout_of layouts.now).tree id }
+    ensures { IsSomeAnd (field_of (value_in (layout_of layouts.now).tree content.now) id)
+        (λ u. number_in u ≡ result) }
+{
+    layouts_are_described(layouts);
+    let spec = layouts.node(id as u32);
+    let bit = u64::from(spec.offset);
+    if layouts.version() == 2 {
+        let above = read_bits(content, bit, spec.bits);
+        (i128::from(spec.base) + i128::from(above)) as i64
+    } else {
+        read_signed(content, bit, spec.bits)
+    }
 }

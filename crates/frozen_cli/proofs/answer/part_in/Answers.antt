@@ -1,6 +1,6 @@
 use Rattle.idl_parse.specs.Parsed.{definition_of}
 use Rattle.frozen_cli.specs.Reply.{ThinDefinitionIn, PartUnder}
-use Rattle.frozen_cli.proofs.Joins.{gives_then}
+use Rattle.frozen_cli.proofs.Joins.{gives_then, stops}
 use Rattle.frozen_cli.proofs.answer.part_in.Goals as goal
 
 pub returns-clause-gives : goal.returns-clause-gives
@@ -9,3 +9,9 @@ returns-clause-gives g c =
     (λ held d. PartUnder held c.args.file.now d c.args.name.now) (definition_of c.in_ok-def.def)
     c.part_under.result c.in_ok-def.ensures.gives
     (rw c.in_ok-def.ensures.reads.kept at c.part_under.ensures.gives)
+
+pub returns-in_err-def-clause-gives : goal.returns-in_err-def-clause-gives
+returns-in_err-def-clause-gives g c =
+    stops _ definition_of (λ out. out.items) (λ held. ThinDefinitionIn (held c.args.def.now))
+    (λ held d. PartUnder held c.args.file.now d c.args.name.now) c.in_err-def.field-0.0
+    c.from_residual.result c.in_err-def.ensures.gives c.from_residual.ensures.1

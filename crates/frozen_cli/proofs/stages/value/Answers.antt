@@ -1,6 +1,14 @@
-use Rattle.std.proofs.Common.{Err, refl, subst, rules}
+use Rattle.std.proofs.Common.{◌≤◌, Err, refl, subst, rules}
+use Rattle.frozen_model.specs.Values.{cells, cell_limit}
+use Rattle.type_kinds.specs.KindsOf.{kinds_of}
+use Rattle.typed_tree.specs.References.{value_of_tree}
 use Rattle.typed_reading.specs.Answers.{IsChecked}
 use Rattle.frozen_cli.proofs.stages.value.Goals as goal
+
+pub returns-in-Ok-clause-few : goal.returns-in-Ok-clause-few
+returns-in-Ok-clause-few c =
+    subst (λ t. cells (kinds_of t) (value_of_tree c.in-Ok.tree) ≤ cell_limit) c.root.ensures.tree
+    c.in-Ok.ensures.cause.3
 
 pub returns-in-Err : goal.returns-in-Err
 returns-in-Err c =
@@ -10,5 +18,6 @@ returns-in-Err c =
     record {
       gives = (fault, cause, search rules, refl);
       kinds = tt;
+      few = tt;
       no_file = search rules;
     }

@@ -1,0 +1,24 @@
+-- What an opened file holds.
+use Rattle.std.specs.Prelude.{ℕ, List, Result, Ok, Err}
+use Rattle.frozen_model.specs.Values.{Value, Absent}
+use Rattle.frozen_model.specs.Layouts.{Layout, Described}
+use Rattle.frozen_model.specs.Walk.{Fault, open_content}
+use Rattle.layout_tree.specs.Nodes.{layout_of}
+use Rattle.file_check.specs.declared.opened.Opened.{Opened}
+
+-- the value that was read; where there is a fault, none is held
+abbrev pub read_value : Result Value Fault → Value
+read_value (Ok v) = v
+read_value (Err f) = Absent
+
+-- the value whose packing the bytes are under the layout
+unfoldable pub value_in : Layout → List ℕ → Value
+value_in l bytes = read_value (open_content bytes l)
+
+-- the value of an opened file
+abbrev pub value_held : Opened → Value
+value_held o = value_in (layout_of o.layouts).tree o.content.now
+
+-- the layout and the value
+abbrev pub file_held : Opened → Described × Value
+file_held o = (layout_of o.layouts, value_held o)

@@ -83,13 +83,9 @@ block_stays s b len le taken =
     ∙ ap (λ z. take b.len (drop b.start z)) (take-append-drop s.taken s.bytes)
 
 -- taking the next bytes changes none
-pub resized : (xs ys : List ℕ) (start len before size : ℕ) → length xs ≡ start → before ≡ start → start + len ≤ size
-    → ys ≡ take (start + len) xs ++ replicate (start + len - before) 0
+pub zeros_taken : (xs ys : List ℕ) (start len size : ℕ) → length xs ≡ start → start + len ≤ size → ys ≡ xs ++ replicate len 0
     → (ys ++ replicate (size - length ys) 0 ≡ xs ++ replicate (size - length xs) 0) × (length ys ≡ start + len)
-resized xs ys start len before size here same_before le e =
-    let all : take (start + len) xs ≡ xs = take_all (start + len) xs (omega arith) in
-    let more : start + len - before ≡ len = omega arith in
-    let same : ys ≡ xs ++ replicate len 0 = e ∙ ap (λ z. z ++ replicate (start + len - before) 0) all ∙ ap (λ k. xs ++ replicate k 0) more in
+zeros_taken xs ys start len size here le same =
     let long : length ys ≡ start + len = omega (arith, ap length same, length-append xs (replicate len 0), length-replicate {A = ℕ} len 0) in
     let left : len + (size - length ys) ≡ size - length xs = omega (arith, long) in (
       ap (λ z. z ++ replicate (size - length ys) 0) same
@@ -98,3 +94,12 @@ resized xs ys start len before size here same_before le e =
           ∙ ap (λ k. xs ++ replicate k 0) left,
       long,
     )
+
+-- zeros behind zeros
+pub more_zeros : (front xs ys : List ℕ) (n k m : ℕ) → xs ≡ front ++ replicate n 0 → ys ≡ xs ++ replicate k 0 → n + k ≡ m → ys ≡ front ++ replicate m 0
+more_zeros front xs ys n k m before now sum =
+    now
+    ∙ ap (λ z. z ++ replicate k 0) before
+    ∙ append_assoc front (replicate n 0) (replicate k 0)
+    ∙ ap (λ z. front ++ z) (replicate-append-replicate n k 0)
+    ∙ ap (λ z. front ++ replicate z 0) sum

@@ -1,6 +1,6 @@
 //! The reservation, and the blocks that it hands out.
 
-ghost use Rattle.std.specs.Prelude.{◌≡◌, ◌↔◌, ℕ, ◌+◌, ◌-◌, ◌≤◌, ◌<◌, slice_index, IsSome, IfSome, IsOk, IfOk, MatchOption, length, replicate};
+ghost use Rattle.std.specs.Prelude.{◌≡◌, ◌↔◌, ℕ, ◌+◌, ◌-◌, ◌≤◌, ◌<◌, slice_index, IsSome, IfSome, IsOk, IfOk, MatchOption, length, replicate, ◌++◌, vec_capacity};
 ghost use Rattle.std.specs.Borrow.{sem};
 ghost use Rattle.block_region.specs.Space.{IsRegion, IsTaken, block_bytes, handed_out, in_use, written, grown};
 ghost use Rattle.block_region.specs.Lending.{LendsBlock};
@@ -10,6 +10,24 @@ use crate::block::Block;
 use std::alloc::{AllocError, Global};
 use std::marker::Model;
 use std_alloc::vec::run_mut;
+
+// What new bytes are copied from.
+static ZEROS: [u8; 256] = [0; 256];
+
+// Appends so many zeros, for which there is room.
+#[inline]
+fn append_zeros(bytes: &mut Vec<u8>, len: usize)
+    requires { length bytes.now.items + len ≤ vec_capacity bytes.now }
+    ensures items { bytes.new.items ≡ bytes.old.items ++ replicate len 0 }
+    ensures capacity { vec_capacity bytes.old ≤ vec_capacity bytes.new }
+{
+    let mut left = len;
+    while left > ZEROS.len() {
+        bytes.extend_from_slice(&ZEROS).unwrap();
+        left -= ZEROS.len();
+    }
+    bytes.extend_from_slice(&ZEROS[..left]).unwrap();
+}
 
 /// Memory that is taken once and handed out in blocks, the first bytes first. What is not yet handed out is zero.
 #[derive(Drop)]
@@ -66,7 +84,7 @@ impl Region {
             return None;
         }
         let start = self.bytes.len();
-        self.bytes.resize(start + len, 0).unwrap();
+        append_zeros(&mut self.bytes, len);
         Some(Block::new(start, len))
     }
 
@@ -132,7 +150,8 @@ impl Region {
         ensures { result.items ≡ self.bytes }
     {
         let Region { mut bytes, size } = self;
-        bytes.resize(size, 0).unwrap();
+        let left = size - bytes.len();
+        append_zeros(&mut bytes, left);
         bytes
     }
 }

@@ -21,10 +21,11 @@ use Rattle.layout_tree.specs.Listing.{size, nodes_of, nodes_of_all, tree_of, all
 use Rattle.layout_tree.specs.Listing.{IsNotedLayout}
 use Rattle.frozen_model.specs.Trees.{Flag, Integer}
 use Rattle.layout_tree.specs.Basing.{based_at, all_based_at, BaseAt, BaseAmong}
+use Rattle.layout_tree.proofs.Noted.{Kept, AllKept}
 use Rattle.layout_tree.proofs.Place.{length_nodes}
 use Rattle.layout_tree.proofs.Subs.{below_test, above_test}
 
--- a node with another noted width
+-- a node with another base
 abbrev pub rebased : NodeSpec → ℤ → NodeSpec
 rebased x w = record {
   kind = x.kind;
@@ -35,15 +36,6 @@ rebased x w = record {
   offset = x.offset;
   base = w;
 }
-
--- what noting keeps
-pub record Kept (t u : Noted) : Type 0 where
-  pub nodes : nodes u ≡ nodes t
-  pub bits : inline u ≡ inline t
-
-pub record AllKept (ts us : AllNoted) : Type 0 where
-  pub nodes : nodes_all us ≡ nodes_all ts
-  pub bits : inline_all us ≡ inline_all ts
 
 mutual
   pub kept : (t : Noted) (k : ℕ) (w : ℤ) → BaseAt t k w → Kept t (based_at t k w)

@@ -3,9 +3,9 @@ use Rattle.std.proofs.Common.{◌≡◌, ℕ, suc, ◌+◌, pos, List, [], ◌�
 use Rattle.std.proofs.Common.{◌∙◌, subst}
 use Rattle.std.proofs.Math.Logic.{∥∥₁_map}
 use Rattle.frozen_model.specs.Trees.{Integer, Flag, I8, I16, I32, I64, Text, Binary, AList, ASet, AMap}
-use Rattle.frozen_model.specs.Trees.{Holder, Leaf, ByteRange, ItemRange, Optional, Struct, NoField, Field}
+use Rattle.frozen_model.specs.Trees.{Leaf, ByteRange, ItemRange, Optional, Struct, NoField, Field}
 use Rattle.frozen_model.specs.Trees.{KindTree, KindTrees, nodes, nodes_all, kinds as kinds_of, kinds_all}
-use Rattle.frozen_model.specs.Layouts.{Version, Version2, Layout, Layouts, described}
+use Rattle.frozen_model.specs.Layouts.{Version, Version2, described}
 use Rattle.layout_tree.specs.declared.node.NodeSpec.{NodeSpec}
 use Rattle.layout_tree.specs.declared.node.FormVersion.{FormVersion}
 use Rattle.layout_tree.specs.declared.node.FormVersion.TheVariants.{Second}
@@ -16,10 +16,9 @@ use Rattle.layout_tree.specs.Listing.{nodes_of_all, all_nodes, inline, item_stru
 use Rattle.layout_tree.specs.Listing.{IsNotedLayout, spec}
 use Rattle.layout_tree.specs.Segments.{IsStructKind}
 use Rattle.layout_tree.specs.Given.{resting}
-use Rattle.layout_tree.specs.Shapes.{blank, all_blank, shape_of, cleared, cleared_wide}
+use Rattle.layout_tree.specs.Shapes.{blank, all_blank, cleared, cleared_wide}
 use Rattle.layout_tree.proofs.Decode.{tree_again}
 use Rattle.layout_tree.proofs.Readings.{kinds_nodes}
-use Rattle.layout_tree.proofs.Resting.{struct_item}
 use Rattle.layout_tree.proofs.Shaped.{Shaped, blank_settled, blank_sound}
 use Rattle.layout_tree.proofs.Shaping.{blank_nodes, all_blank_nodes, blank_inline, all_blank_inline}
 

@@ -6,9 +6,12 @@ use Rattle.frozen_model.specs.Trees.{no_field, field, Alike, Leaf, ByteRange, It
 use Rattle.frozen_model.specs.Trees.{NoField, Field, kinds, kinds_all}
 use Rattle.frozen_model.specs.Layouts.{Version, Coded, MayRelax, IsLayout, IsDescribed, described}
 use Rattle.frozen_laws.proofs.SameKinds.{struct_along, kind_tree_along}
+use Rattle.layout_tree.specs.declared.layouts.Layouts.{Layouts}
 use Rattle.layout_tree.specs.declared.node.FormVersion.{FormVersion}
 use Rattle.layout_tree.specs.Listing.{Noted, AllNoted, layout_in, layouts_in, settled, version_of}
-use Rattle.layout_tree.specs.Listing.{IsNotedLayout}
+use Rattle.layout_tree.specs.Listing.{IsNotedLayout, tree_of}
+use Rattle.layout_tree.specs.Nodes.{layout_of, settled_of}
+use Rattle.layout_tree.proofs.Held.{described_held}
 use Rattle.layout_tree.proofs.Settled.{settled_sound}
 
 mutual
@@ -37,13 +40,21 @@ layout_is e t h =
       legal = h.legal;
     }
 
-pub described_is : (e : FormVersion) (r : Bool) (t : Noted) → ∥ MayRelax (version_of e) r ∥₁
+described_is : (e : FormVersion) (r : Bool) (t : Noted) → ∥ MayRelax (version_of e) r ∥₁
     → ∥ IsNotedLayout e t ∥₁
     → ∥ IsDescribed (described (version_of e) r (layout_in (version_of e) t)) ∥₁
 described_is e r t p h =
     ∥∥₁_elim p ∥∥₁_prop (λ x. ∥∥₁_map h (λ y. record { relaxing = x; layout = layout_is e t y }))
 
-pub settled_is : (e : FormVersion) (r : Bool) (t : Noted) → ∥ MayRelax (version_of e) r ∥₁
+settled_is : (e : FormVersion) (r : Bool) (t : Noted) → ∥ MayRelax (version_of e) r ∥₁
     → ∥ IsNotedLayout e t ∥₁
     → ∥ IsDescribed (described (version_of e) r (layout_in (version_of e) (settled t))) ∥₁
 settled_is e r t p h = described_is e r (settled t) p (∥∥₁_map h (settled_sound e t))
+
+pub kept_described : (l : Layouts) → IsDescribed (layout_of l)
+kept_described l =
+    described_held (layout_of l) (described_is l.version l.relaxed (tree_of l.nodes.items) l.relaxing l.sound)
+
+pub settled_described : (l : Layouts) → IsDescribed (settled_of l)
+settled_described l =
+    described_held (settled_of l) (settled_is l.version l.relaxed (tree_of l.nodes.items) l.relaxing l.sound)

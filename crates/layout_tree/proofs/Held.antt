@@ -17,13 +17,13 @@ use Rattle.frozen_model.specs.Layouts.{IsLayout, IsDescribed}
 le_held : {a b : ℕ} → ∥ a ≤ b ∥₁ → a ≤ b
 le_held h = ∥∥₁_elim h le_prop (λ x. x)
 
-eq_held : {a b : ℕ} → ∥ a ≡ b ∥₁ → a ≡ b
+pub eq_held : {a b : ℕ} → ∥ a ≡ b ∥₁ → a ≡ b
 eq_held {a} {b} h =
     let up : a ≤ b = ∥∥₁_elim h le_prop (λ e. omega (arith, e)) in
     let down : b ≤ a = ∥∥₁_elim h le_prop (λ e. omega (arith, e)) in
     omega (arith, up, down)
 
-never : ∥ ⊥ ∥₁ → ⊥
+pub never : ∥ ⊥ ∥₁ → ⊥
 never h = ∥∥₁_elim h ⊥_prop (λ x. x)
 
 -- ---- kinds

@@ -2,7 +2,7 @@
 use Rattle.std.proofs.Common.{◌≡◌, ℕ, suc, ◌+◌, ◌≤◌, ◌<◌, arith, refl, ap, sym, ◌∙◌, subst}
 use Rattle.frozen_model.specs.Trees.{Leaf, ByteRange, ItemRange, Optional, Struct, NoField, Field, nodes}
 use Rattle.frozen_model.specs.Trees.{nodes_all, Part}
-use Rattle.frozen_model.specs.Values.{Value, Values, NoValue, And, count, nth, Of, OfEach, more, OfAll, part}
+use Rattle.frozen_model.specs.Values.{Values, NoValue, And, count, nth, Of, OfEach, more, OfAll, part}
 use Rattle.frozen_model.specs.Layouts.{Version, Layout, Layouts}
 use Rattle.layout_tree.specs.Listing.{Noted, AllNoted, layout_in, layouts_in, sub}
 use Rattle.layout_tree.specs.Reading.{IsStruct}

@@ -5,7 +5,9 @@ pub mod Readings
 pub mod Settling
 pub mod Settled
 pub mod Children
+pub mod Parents
 pub mod Kin
+pub mod Told
 pub mod Noted
 pub mod Based
 pub mod Raising
@@ -21,3 +23,4 @@ pub mod Whole
 pub mod Codings
 pub mod Left
 pub mod Held
+pub mod Worked

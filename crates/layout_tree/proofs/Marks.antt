@@ -14,6 +14,7 @@ use Rattle.layout_tree.specs.Groups.{group, tree_group}
 use Rattle.layout_tree.specs.Given.{shown}
 use Rattle.layout_tree.specs.Marking.{is_leaf_kind, Behind, Unmarked, Marked, UnmarkedBelow, BelowMarked}
 use Rattle.layout_tree.specs.Marking.{UnmarkedFields, FieldsMarked}
+use Rattle.layout_tree.specs.Shapes.{marked}
 use Rattle.layout_tree.proofs.Decode.{item_is_struct}
 use Rattle.layout_tree.proofs.Place.{length_nodes, some_nodes}
 use Rattle.layout_tree.proofs.Settling.{split_nodes, seam_get, seam_set, seam_in, head_group, is_head}
@@ -48,18 +49,6 @@ shown_leaf (Integer I8) f p b w o z = refl
 shown_leaf (Integer I16) f p b w o z = refl
 shown_leaf (Integer I32) f p b w o z = refl
 shown_leaf (Integer I64) f p b w o z = refl
-
--- a node with another number in the place of the noted width
-abbrev pub marked : NodeSpec → ℕ → NodeSpec
-marked x w = record {
-  kind = x.kind;
-  field = x.field;
-  parent = x.parent;
-  bits = x.bits;
-  wide = w;
-  offset = x.offset;
-  base = x.base;
-}
 
 head_marked : (t : Noted) (sk : Kind) (i p f o e : ℕ) → (tree_group t ≡ 0 → ⊥) → e ≡ i + nodes t
     → marked (shown (head_node t sk i p f o)) e ≡ head_node t sk i p f o

@@ -17,22 +17,11 @@ use Rattle.layout_tree.specs.Listing.{Noted, AllNoted, coded, layout_in, layouts
 use Rattle.layout_tree.specs.Listing.{inline, inline_all, kind_of_holder, item_struct, spec, size, nodes_of}
 use Rattle.layout_tree.specs.Listing.{nodes_of_all, tree_of, all_nodes, IsListing, version_of, IsNotedLayout}
 use Rattle.layout_tree.specs.Noting.{noted_at, all_noted_at, LeafAt, LeafAmong}
+use Rattle.layout_tree.specs.Shapes.{marked}
 use Rattle.layout_tree.proofs.Place.{length_nodes}
 use Rattle.layout_tree.proofs.Subs.{below_test, above_test}
 
--- a node with another noted width
-abbrev pub wider : NodeSpec → ℕ → NodeSpec
-wider x w = record {
-  kind = x.kind;
-  field = x.field;
-  parent = x.parent;
-  bits = x.bits;
-  wide = w;
-  offset = x.offset;
-  base = x.base;
-}
-
--- what noting keeps
+-- what a change of one leaf keeps
 pub record Kept (t u : Noted) : Type 0 where
   pub nodes : nodes u ≡ nodes t
   pub bits : inline u ≡ inline t
@@ -82,7 +71,7 @@ mutual
 mutual
   pub noted_nodes : (t : Noted) (k w : ℕ) → LeafAt t k w → (sk : Kind) (i p f o : ℕ) (x : NodeSpec)
       → nodes_of (noted_at t k w) sk i p f o
-      ≡ slice_set (nodes_of t sk i p f o) k (wider (get_or (nodes_of t sk i p f o) k x) w)
+      ≡ slice_set (nodes_of t sk i p f o) k (marked (get_or (nodes_of t sk i p f o) k x) w)
   noted_nodes (Leaf j c) zero w h sk i p f o x = refl
   noted_nodes (ByteRange t d c) (suc zero) w h sk i p f o x = refl
   noted_nodes (ByteRange t d c) (suc (suc zero)) w h sk i p f o x = refl
@@ -118,7 +107,7 @@ mutual
 
   pub noted_nodes_all : (ls : AllNoted) (k w : ℕ) → LeafAmong ls k w → (i p o : ℕ) (x : NodeSpec)
       → nodes_of_all (all_noted_at ls k w) i p o
-      ≡ slice_set (nodes_of_all ls i p o) k (wider (get_or (nodes_of_all ls i p o) k x) w)
+      ≡ slice_set (nodes_of_all ls i p o) k (marked (get_or (nodes_of_all ls i p o) k x) w)
   noted_nodes_all NoField k w h i p o x = absurd h
   noted_nodes_all (Field id l ls) k w (inl h) i p o x =
       let t = below_test k (nodes l) h.0 in
@@ -131,8 +120,8 @@ mutual
       (ap (λ n. nodes_of (noted_at l k w) kinds.Struct i p id o ++ others n (inline (noted_at l k w))) e.nodes
       ∙ ap (λ b. nodes_of (noted_at l k w) kinds.Struct i p id o ++ others (nodes l) b) e.bits
       ∙ ap (λ r. r ++ rest) (noted_nodes l k w h.1 kinds.Struct i p id o x)
-      ∙ sym (ap (λ y. slice_set (mine ++ rest) k (wider y w)) (get_or_append_left mine rest x k len)
-      ∙ set-append_left mine rest k (wider (get_or mine k x) w) len))
+      ∙ sym (ap (λ y. slice_set (mine ++ rest) k (marked y w)) (get_or_append_left mine rest x k len)
+      ∙ set-append_left mine rest k (marked (get_or mine k x) w) len))
   noted_nodes_all (Field id l ls) k w (inr h) i p o x =
       let t = above_test k (nodes l) h.0 in
       let mine = nodes_of l kinds.Struct i p id o in
@@ -140,9 +129,9 @@ mutual
       let len = length_nodes l kinds.Struct i p id o in
       rw t
       (ap (λ r. mine ++ r) (noted_nodes_all ls (k - nodes l) w h.1 (i + nodes l) p (o + inline l) x)
-      ∙ sym (ap (λ y. slice_set (mine ++ rest) k (wider y w))
+      ∙ sym (ap (λ y. slice_set (mine ++ rest) k (marked y w))
       (get_or-append_right mine rest (nodes l) k x len h.0)
-      ∙ set-append_right mine rest (nodes l) k (wider (get_or rest (k - nodes l) x) w) len h.0))
+      ∙ set-append_right mine rest (nodes l) k (marked (get_or rest (k - nodes l) x) w) len h.0))
 
 -- ---- what noting means for the layout
 
@@ -276,13 +265,13 @@ pub record Notes (e : FormVersion) (ns ms : List NodeSpec) (k w : ℕ) : Type 0 
 
 pub notes : (e : FormVersion) (ns : List NodeSpec) (k w : ℕ) (x : NodeSpec) → IsListing ns
     → ∥ IsNotedLayout e (tree_of ns) ∥₁ → LeafAt (tree_of ns) k w → x ≡ get_or ns k x
-    → Notes e ns (slice_set ns k (wider x w)) k w
+    → Notes e ns (slice_set ns k (marked x w)) k w
 notes e ns k w x h p q ex =
     let t = noted_at (tree_of ns) k w in
-    let is : slice_set ns k (wider x w) ≡ all_nodes t =
-    ap (λ y. slice_set ns k (wider y w)) ex ∙ ap (λ r. slice_set r k (wider (get_or r k x) w)) h
+    let is : slice_set ns k (marked x w) ≡ all_nodes t =
+    ap (λ y. slice_set ns k (marked y w)) ex ∙ ap (λ r. slice_set r k (marked (get_or r k x) w)) h
     ∙ sym (noted_nodes (tree_of ns) k w q kinds.Struct 0 0 0 0 x) in
-    let tells : tree_of (slice_set ns k (wider x w)) ≡ t = ap tree_of is ∙ tree_again t in
+    let tells : tree_of (slice_set ns k (marked x w)) ≡ t = ap tree_of is ∙ tree_again t in
     record {
       tells = tells;
       listing = is ∙ ap all_nodes (sym tells);

@@ -6,6 +6,7 @@ use Rattle.std.proofs.Math.Bridge.{le_prop}
 use Rattle.frozen_model.specs.Trees.{LeafKind, Flag, Integer, I8, I16, I32, I64, Text, Binary, AList, ASet}
 use Rattle.frozen_model.specs.Trees.{AMap, Tree, Trees, Leaf, ByteRange, ItemRange, Optional, Struct, NoField}
 use Rattle.frozen_model.specs.Trees.{Field, nodes, nodes_all, Part, greatest_bits, greatest_bits_all}
+use Rattle.frozen_model.specs.Trees.{IsFormed, AllFormed}
 use Rattle.frozen_model.specs.Trees.{IsNarrow, AllNarrow, itself, in_item, in_optional, in_struct, PartAll}
 use Rattle.frozen_model.specs.Trees.{in_first, in_later, kinds as kinds_of, kinds_all}
 use Rattle.frozen_model.specs.Layouts.{Version, Version1, Version2, FromBase, Layout, width, stride, strides}
@@ -79,6 +80,18 @@ mutual
       → AllNarrow (kinds_all ts) → IsNarrow (kinds_of s)
   narrow_part_all (in_first p) h = narrow_part p h.0
   narrow_part_all (in_later p) h = narrow_part_all p h.1
+
+mutual
+  pub formed_part : {A B : Type 0} {t s : Tree A B} {i n : ℕ} → Part t i s n → IsFormed t → IsFormed s
+  formed_part itself h = h
+  formed_part (in_item p) h = formed_part p h.1
+  formed_part (in_optional p) h = formed_part p h.1
+  formed_part (in_struct p) h = formed_part_all p h.1
+
+  pub formed_part_all : {A B : Type 0} {ts : Trees A B} {s : Tree A B} {i n : ℕ} → PartAll ts i s n
+      → AllFormed ts → IsFormed s
+  formed_part_all (in_first p) h = formed_part p h.0
+  formed_part_all (in_later p) h = formed_part_all p h.1
 
 mutual
   pub kinds_nodes : {A B : Type 0} (t : Tree A B) → nodes (kinds_of t) ≡ nodes t

@@ -1,15 +1,15 @@
 -- Which nodes are leaves of whole numbers.
-use Rattle.std.proofs.Common.{◌≡◌, ℕ, zero, suc, ◌+◌, ◌-◌, ◌<◌, ◌≤◌, ◌⊎◌, inl, inr, List, ◌++◌, Bool, true}
-use Rattle.std.proofs.Common.{false, arith, refl, ap, sym, ◌∙◌, get_or}
+use Rattle.std.proofs.Common.{◌≡◌, ℕ, zero, suc, ◌+◌, ◌-◌, ◌<◌, inl, inr, List}
+use Rattle.std.proofs.Common.{false, arith, refl, ap, ◌∙◌, get_or}
 use Rattle.std.proofs.lemmas.Bool.{cases_lt}
 use Rattle.std.proofs.lemmas.List.{get_or_append_left, get_or-append_right}
-use Rattle.frozen_model.specs.Trees.{I8, I16, I32, I64, Flag, Integer, LeafKind, ByteKind, Text, Binary}
+use Rattle.frozen_model.specs.Trees.{I8, I16, I32, I64, Flag, Integer, ByteKind, Text, Binary}
 use Rattle.frozen_model.specs.Trees.{Holder, AList, ASet, AMap, Leaf, ByteRange, ItemRange, Optional, Struct}
 use Rattle.frozen_model.specs.Trees.{NoField, Field, nodes, nodes_all}
 use Rattle.layout_tree.specs.declared.node.NodeSpec.{NodeSpec}
 use Rattle.layout_tree.specs.declared.node.Kind.{Kind}
 use Rattle.layout_tree.specs.declared.node.Kind.TheVariants as kinds
-use Rattle.layout_tree.specs.Listing.{Noted, AllNoted, inline, item_struct, kind_of, kind_of_bytes}
+use Rattle.layout_tree.specs.Listing.{Noted, AllNoted, inline, item_struct, kind_of_bytes}
 use Rattle.layout_tree.specs.Listing.{kind_of_holder, nodes_of, nodes_of_all, tree_of, IsListing}
 use Rattle.layout_tree.specs.Segments.{IsStructKind}
 use Rattle.layout_tree.specs.Reading.{whole_kind}

@@ -1,5 +1,5 @@
 -- Parts of a list of nodes.
-use Rattle.std.specs.Prelude.{◌≡◌, ℕ, suc, ◌+◌, ◌^◌, ◌<◌, List, [], ◌∷◌, ◌++◌, length, pos}
+use Rattle.std.specs.Prelude.{◌≡◌, ℕ, suc, ◌+◌, ◌^◌, ◌<◌, ◌≤◌, List, [], ◌∷◌, ◌++◌, length, pos, get_or}
 use Rattle.frozen_model.specs.Trees.{Leaf, ByteRange, ItemRange, Optional, Struct, NoField, Field, nodes}
 use Rattle.frozen_model.specs.Trees.{nodes_all}
 use Rattle.layout_tree.specs.declared.node.NodeSpec.{NodeSpec}
@@ -113,3 +113,16 @@ abbrev pub AllSettled : {ns : List NodeSpec} {at end sum : ℕ} → Fields ns at
     → Type 0
 AllSettled g o ms bits = (ms ≡ g.pre ++ (nodes_of_all (settled_all g.fields) g.number g.parent o ++ g.post))
     × (bits ≡ o + inline_all (settled_all g.fields))
+
+abbrev pub Between : ℕ → ℕ → ℕ → Type 0
+Between low high n = (low ≤ n) × (n < high)
+
+-- the node below is a child of a node, or stands below that child, so that the parents of the nodes after the
+-- child are not before it
+pub record Inside (ns : List NodeSpec) (node below : ℕ) : Type 0 where
+  pub child : ℕ
+  pub over : child ≤ below
+  pub after : node < child
+  pub long : below < length ns
+  pub own : (d : NodeSpec) → (get_or ns child d).parent ≡ node
+  pub inner : (k : ℕ) → child < k → k ≤ below → (d : NodeSpec) → Between child k (get_or ns k d).parent

@@ -32,6 +32,7 @@ impl Layouts {
     ghost use Rattle.layout_tree.specs.Given.{IsListOf, ListsLayout};
     ghost use Rattle.layout_tree.specs.Nodes.{IsNode, at, noted_in, layout_of, settled_of, IsSettled};
     ghost use Rattle.layout_tree.specs.Nodes.{IsNumber, listed};
+    ghost use Rattle.layout_tree.specs.Segments.{Inside};
     ghost use Rattle.layout_tree.specs.Noting.{LeafAt, noted_at, wide_at};
     ghost use Rattle.layout_tree.specs.Basing.{BaseAt, based_at, whole_at};
     ghost use Rattle.layout_tree.specs.Reading.{plain, kind_at, IsLeaf, IsRange, IsOptional, distance_width};
@@ -201,20 +202,38 @@ impl Layouts {
         (count * self.stride(node) as u64 + 7) / 8
     }
 
-    // The number of a struct's child by its field.
+    // The number of the child of a struct that a node below it is, or stands below.
+    fn child_over(&self, node: u32, below: u32) -> u32
+        requires { Inside self.now.nodes.items node below }
+        ensures { (i : Inside self.now.nodes.items node below) → result ≡ i.child }
+    {
+        let mut child = below;
+        while self.nodes[child as usize].parent != node {
+            child = self.nodes[child as usize].parent;
+        }
+        child
+    }
+
+    // The number of a struct's child by its field, by halving, since ids rise: each step takes the child that
+    // the node in the middle is, or stands below.
     fn field_child(&self, node: u32, field: i16) -> Option<u32>
         requires node { IsNode self.now node }
         requires structure { IsStruct (at self.now node) }
         ensures { result ≡ child_of (at self.now node) node field }
     {
-        let end = self.past(node);
-        let mut child = node + 1;
-        while child < end {
+        let mut low = node + 1;
+        let mut end = self.past(node);
+        while low < end {
+            let child = self.child_over(node, low + (end - low) / 2);
             let spec = self.nodes[child as usize];
             if spec.field == field {
                 return Some(child);
             }
-            child = self.past(child);
+            if spec.field < field {
+                low = self.past(child);
+            } else {
+                end = child;
+            }
         }
         None
     }

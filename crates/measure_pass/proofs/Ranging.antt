@@ -11,7 +11,8 @@ use Rattle.layout_tree.specs.Reading.{IsRange}
 use Rattle.layout_tree.proofs.Children.{Child}
 use Rattle.measure_pass.specs.Growing.{Same}
 use Rattle.measure_pass.specs.Spots.{Spot, spot, root, block_bytes, start_of, noting_at, run, ran, Runnable}
-use Rattle.measure_pass.proofs.Stays.{same_self, same_chain, same_child, told_child}
+use Rattle.layout_tree.proofs.Told.{told_child}
+use Rattle.measure_pass.proofs.Stays.{same_self, same_chain, same_child}
 
 pub record RunLeft (l0 l : Layouts) (r0 r : List Spot) (first at k : ℕ) : Type 0 where
   pub done : List Spot

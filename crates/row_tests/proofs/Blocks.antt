@@ -16,7 +16,7 @@ use Rattle.measure_pass.specs.Spots.{Spot, spot, root, start_of, noting_at, spot
 use Rattle.measure_pass.specs.Spots.{block_bytes, run, Runnable}
 use Rattle.measure_pass.proofs.Running.{runs}
 use Rattle.measure_pass.proofs.Runnables.{runnable}
-use Rattle.measure_pass.proofs.Stays.{told_child}
+use Rattle.layout_tree.proofs.Told.{told_child}
 use Rattle.row_tests.specs.Widths.{IsRangeOf, block_sum}
 
 each_range : (l : Layout) (done : List Spot) (b : ℕ) (ss : List Spot) → Runnable l done b ss

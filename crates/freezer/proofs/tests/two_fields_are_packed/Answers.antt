@@ -1,49 +1,25 @@
-use Rattle.std.proofs.Common.{◌≡◌, rules, false, arith, refl, pos, negsuc, ℕ, ◌<◌, ◌≤◌, ◌+◌, ◌*◌, ap, sym}
+use Rattle.std.proofs.Common.{◌≡◌, rules, false, arith, refl, pos, negsuc, ◌+◌, ap, sym}
 use Rattle.std.proofs.Common.{◌∙◌, subst, length, List, [], ◌∷◌, ◌++◌}
 use Rattle.block_region.specs.Space.{Space}
 use Rattle.frozen_model.specs.Bits.{digits}
 use Rattle.typed_tree.specs.Fields.{record_of as record_in, id_numbers}
 use Rattle.typed_tree.specs.Trees.{but_last, last}
 use Rattle.frozen_model.specs.Values.{Value, Number, One, one, record_of, part, no_part}
-use Rattle.frozen_model.specs.Rows.{two_fields, two_numbers}
+use Rattle.frozen_model.specs.Rows.{two_numbers}
 use Rattle.frozen_model.specs.Holding.{Holds}
 use Rattle.frozen_model.specs.Packing.{extent, bytes_for}
-use Rattle.frozen_model.specs.Layouts.{Version1, TwosComplement, Layout, Described, signed_coded, described}
+use Rattle.frozen_model.specs.Layouts.{Version1, Layout, Described, described}
 use Rattle.frozen_model.specs.Layouts.{stride}
 use Rattle.frozen_laws.proofs.Holding.{fit_at}
-use Rattle.layout_tree.specs.declared.node.NodeSpec.{NodeSpec}
 use Rattle.layout_tree.specs.Nodes.{layout_of}
-use Rattle.layout_tree.specs.Given.{IsListOf, shown_nodes, noted_from}
+use Rattle.layout_tree.proofs.Worked.{worked, given, lists}
 use Rattle.typed_tree.specs.References.{value_of_ref}
 use Rattle.freezer.proofs.tests.two_fields_are_packed.Goals as goal
-
-given : (ns : List NodeSpec) → ns
-    ≡ shown_nodes (noted_from (two_fields (TwosComplement 4) (TwosComplement 1)))
-    → IsListOf (described Version1 false (two_fields (TwosComplement 4) (TwosComplement 1))) ns (pos 1) false
-given ns e = record {
-  described = record {
-    relaxing = refl;
-    layout = record {
-      root = tt;
-      kind_tree = record {
-        formed = ((omega arith, omega arith, (omega arith, omega arith, tt)), (tt, (tt, tt)));
-        few = omega arith;
-        shallow = omega arith;
-        narrow = (omega arith, (tt, (tt, tt)));
-      };
-      coded = (signed_coded, (signed_coded, tt));
-      legal = (omega arith, (omega arith, tt));
-    };
-  };
-  numbered = refl;
-  relaxes = refl;
-  nodes = e;
-}
 
 head_same : {x y : Value} → ◌≡◌ {A = List Value} (x ∷ []) (y ∷ []) → x ≡ y
 head_same e = cc
 
-holds : Holds (two_fields (TwosComplement 4) (TwosComplement 1)) (two_numbers (pos 5) (negsuc 0))
+holds : Holds worked (two_numbers (pos 5) (negsuc 0))
 unfolding digits
 holds =
     let of = record_of refl (part (one (omega arith)) (part (one (omega arith)) no_part)) in
@@ -59,15 +35,12 @@ holds =
     }
 
 pub from_nodes-layouts-requires : goal.from_nodes-layouts-requires
-from_nodes-layouts-requires c d = record {
-  layout = described Version1 false (two_fields (TwosComplement 4) (TwosComplement 1));
-  is = given _ (search (rules, d.in_ok-to_vec.ensures.items_if_clones_equal));
-}
+from_nodes-layouts-requires c d = lists _ (search (rules, d.in_ok-to_vec.ensures.items_if_clones_equal))
 
 pub freeze_into-requires-clause-holds : goal.freeze_into-requires-clause-holds
 freeze_into-requires-clause-holds c d =
     let el = ap (λ (x : Described). x.tree) (d.from_nodes-layouts.ensures.layout
-    (described Version1 false (two_fields (TwosComplement 4) (TwosComplement 1)))
+    (described Version1 false worked)
     (given _ (search (rules, d.in_ok-to_vec.ensures.items_if_clones_equal)))) in
     let two = d.in_ok-int-2.ensures.pushed.trees
     ∙ ap (λ (r : List Value). r ++ One (Number (negsuc 0)) ∷ [])
@@ -80,12 +53,12 @@ freeze_into-requires-clause-holds c d =
     let ev : value_of_ref d.top.result ≡ two_numbers (pos 5) (negsuc 0) = d.top.ensures.value
     ∙ head_same same in
     subst (λ (l : Layout). Holds l (value_of_ref d.top.result)) (sym el)
-    (subst (λ (v : Value). Holds (two_fields (TwosComplement 4) (TwosComplement 1)) v) (sym ev) holds)
+    (subst (λ (v : Value). Holds worked v) (sym ev) holds)
 
 pub freeze_into-requires-clause-left : goal.freeze_into-requires-clause-left
 freeze_into-requires-clause-left c d =
     let el = ap (λ (x : Described). x.tree) (d.from_nodes-layouts.ensures.layout
-    (described Version1 false (two_fields (TwosComplement 4) (TwosComplement 1)))
+    (described Version1 false worked)
     (given _ (search (rules, d.in_ok-to_vec.ensures.items_if_clones_equal)))) in
     let two = d.in_ok-int-2.ensures.pushed.trees
     ∙ ap (λ (r : List Value). r ++ One (Number (negsuc 0)) ∷ [])
@@ -100,7 +73,7 @@ freeze_into-requires-clause-left c d =
     let q : bytes_for (stride (layout_of d.from_nodes-layouts.result).tree)
     + extent (layout_of d.from_nodes-layouts.result).tree (value_of_ref d.top.result) ≡ 1 =
     ap (λ (l : Layout). bytes_for (stride l) + extent l (value_of_ref d.top.result)) el
-    ∙ ap (λ (v : Value). bytes_for 5 + extent (two_fields (TwosComplement 4) (TwosComplement 1)) v) ev in
+    ∙ ap (λ (v : Value). bytes_for 5 + extent worked v) ev in
     omega (
       arith,
       ap (λ (s : Space). length s.bytes) d.in_ok-region.ensures.blank,

@@ -1,4 +1,4 @@
-use Rattle.std.proofs.Common.{◌≡◌, ◌≤◌, ◌<◌, ◌∷◌, ◌++◌, [], map, take, length, arith, ap, sym, ◌∙◌}
+use Rattle.std.proofs.Common.{◌≤◌, ◌<◌, ◌∷◌, ◌++◌, [], map, take, length, arith, ap, sym, ◌∙◌}
 use Rattle.std.proofs.lemmas.List.{take_all, map_more}
 use Rattle.layout_tree.specs.Listing.{version_of}
 use Rattle.layout_tree.specs.Shapes.{cleared}

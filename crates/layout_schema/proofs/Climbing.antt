@@ -4,7 +4,7 @@ use Rattle.std.specs.Prelude.{int_lt, option_map}
 use Rattle.std.proofs.lemmas.Int.{ints}
 use Rattle.std.proofs.lemmas.List.{append-nil, map-append, length-map}
 use Rattle.std.proofs.Math.Seq.{drop-append_seam}
-use Rattle.frozen_model.specs.Trees.{AMap, Leaf, ByteRange, ItemRange, Optional, Struct, NoField, Field, nodes, IsFormed, AllFormed, Rising, ids_of, Part, itself, in_item, in_optional, in_struct, PartAll, in_first, in_later}
+use Rattle.frozen_model.specs.Trees.{AMap, Leaf, ByteRange, ItemRange, Optional, Struct, NoField, Field, nodes, IsFormed, Rising, ids_of, Part}
 use Rattle.frozen_model.specs.Values.{And, Rises}
 use Rattle.typed_tree.specs.Spots.{pair}
 use Rattle.layout_tree.specs.declared.node.NodeSpec.{NodeSpec}
@@ -13,6 +13,7 @@ use Rattle.layout_tree.specs.declared.node.Kind.TheVariants as kinds
 use Rattle.layout_tree.specs.Listing.{Noted, AllNoted, inline, item_struct, nodes_of, nodes_of_all, all_nodes}
 use Rattle.layout_tree.specs.Given.{shown}
 use Rattle.layout_tree.specs.Segments.{head_node, rest_nodes}
+use Rattle.layout_tree.proofs.Readings.{formed_part}
 use Rattle.layout_tree.proofs.Settling.{split_nodes}
 use Rattle.layout_tree.proofs.Numbers.{IsLone}
 use Rattle.layout_schema.specs.Schemas.{number, child_value, children_of}
@@ -96,17 +97,6 @@ climbs_below (Optional w l) n h =
     let f = fields_of_tree l kinds.Struct (suc (suc n)) n 2 w.bits (omega arith) in
     rw (e, f) (refl, tt)
 climbs_below (Struct ls) n h = rw (fields_of_all ls (suc n) n 0 (omega arith)) (climbs_any (pos 0) (map pos (ids_of ls)) (climbs_ids 0 (ids_of ls) h.0))
-
-mutual
-  formed_part : {t s : Noted} {i n : ℕ} → Part t i s n → IsFormed t → IsFormed s
-  formed_part itself h = h
-  formed_part (in_item p) h = formed_part p h.1
-  formed_part (in_optional p) h = formed_part p h.1
-  formed_part (in_struct p) h = formed_part_all p h.1
-
-  formed_part_all : {ls : AllNoted} {s : Noted} {i n : ℕ} → PartAll ls i s n → AllFormed ls → IsFormed s
-  formed_part_all (in_first p) h = formed_part p h.0
-  formed_part_all (in_later p) h = formed_part_all p h.1
 
 -- the fields of a node's children among those below it
 climbs_inside : (t : Noted) (n : ℕ) (s : Spot (λ (s : Noted). Part t 0 s n) (all_nodes t) 0 n) → IsFormed t → Climbs None (fields_under n s.inside)

@@ -20,4 +20,11 @@ pub mod ReadFields
 pub mod ReadWalk
 pub mod ReadShape
 pub mod ReadSchema
+pub mod Deeper
+pub mod Turned
+pub mod Moved
+pub mod FieldSteps
+pub mod TableSteps
+pub mod SchemaParts
+pub mod ByNumber
 mod WorkedRows

@@ -32,7 +32,7 @@ use Rattle.layout_schema.proofs.Climbing.{fields_under, Climbs, climbs_at, child
 field_accepted : (P : List ℕ → Type 0) → IsAccepted P field_type
 field_accepted P = ((omega arith, omega arith, (omega arith, omega arith, tt)), omega arith, (tt, tt, (tt, omega arith, tt)))
 
-layout_accepted : (P : List ℕ → Type 0) (v : Version) → IsAccepted P (layout_type v)
+pub layout_accepted : (P : List ℕ → Type 0) (v : Version) → IsAccepted P (layout_type v)
 layout_accepted P Version1 = (
   (omega arith, omega arith, (omega arith, omega arith, (omega arith, omega arith, (omega arith, omega arith, tt)))),
   omega arith,

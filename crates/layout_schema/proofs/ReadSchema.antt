@@ -7,7 +7,7 @@ use Rattle.std.specs.Ordering.{int_eq}
 use Rattle.std.specs.Str.{IsUtf8}
 use Rattle.std.proofs.Math.Facts.{sfits_widen}
 use Rattle.std.proofs.lemmas.Int.{to_z-of_z}
-use Rattle.frozen_model.specs.Values.{Value, InBits, Of, One, one, record_of, part, Truth, Number, nth}
+use Rattle.frozen_model.specs.Values.{Value, InBits, Of}
 use Rattle.frozen_model.specs.Layouts.{Version, Version1, Version2, Described, described}
 use Rattle.compact_wire.specs.declared.fault.WireFault.{WireFault}
 use Rattle.compact_wire.specs.declared.fault.WireFault.TheVariants.{Truncated, Malformed, Trailing, NoMemory}
@@ -18,7 +18,6 @@ use Rattle.wire_scan.specs.Scanned.{IsScanned}
 use Rattle.wire_scan.proofs.ScanLaws.{scanned_only}
 use Rattle.idl_profile.specs.Types.{TypeTree}
 use Rattle.type_kinds.specs.KindsOf.{kinds_of}
-use Rattle.typed_tree.specs.Parts.{IsFlag, fields_of}
 use Rattle.typed_reading.specs.declared.fault.NodeFault.{NodeFault}
 use Rattle.typed_reading.specs.declared.fault.ValueFault.{ValueFault}
 use Rattle.typed_reading.specs.declared.fault.ValueFault.TheVariants as value
@@ -38,7 +37,6 @@ use Rattle.layout_schema.specs.Shapes.{relaxes_in, version_in, shape_in}
 use Rattle.layout_schema.specs.Answers.{with_fields, with_shape, with_version, schema_in, IsSaid, IsSchemaFault}
 use Rattle.layout_schema.specs.Reading.{IsSchemaValue, IsAtFault}
 use Rattle.layout_schema.specs.Telling.{fault_told, IsFaultyAt, IsSpelled, IsReadAs, IsSchemaOf, Tells, IsAnswer}
-use Rattle.compact_codec.specs.Wire.{number_in}
 use Rattle.layout_schema.proofs.Listed.{int_is}
 use Rattle.layout_schema.proofs.ReadEntries.{in_bits, schema_form}
 use Rattle.layout_schema.proofs.OwnSchema.{schema_accepted, schema_short}
@@ -91,10 +89,6 @@ tells_fault v r s (fault.Version n) h = absurd h
 
 -- ---- parts of a value of the type of version 1
 
-pub has_flag : (s : Value) → IsSchemaValue s → IsFlag (nth (fields_of s) 0)
-has_flag _ (v, record_of e (part (one {x = Truth b} h) rest)) = tt
-has_flag _ (v, record_of e (part (one {x = Number z} h) rest)) = absurd h
-
 within_32 : (z : ℤ) → InBits 31 z → SFits w32 z
 within_32 (pos n) h = search rules
 within_32 (negsuc n) h = search rules
@@ -116,10 +110,8 @@ version_is s z is fits =
       cast = ap (λ y. to_z w32 (of_z w32 y)) word ∙ to_z-of_z w32 z fits;
     }
 
-pub told_version : (s : Value) → IsSchemaValue s → {y : Value} {z : ℤ} → y ≡ nth (fields_of s) 3 → y ≡ One (Number z) → IsVersion s z
-told_version s h {z = z} at told =
-    let e : nth (fields_of s) 3 ≡ One (Number z) = sym at ∙ told in
-    version_is s z (ap number_in e) (within_32 z (subst (λ u. InBits 31 (number_in u)) e (in_bits (schema_form s h).version)))
+pub told_version : (s : Value) → IsSchemaValue s → (z : ℤ) → version_in s ≡ z → IsVersion s z
+told_version s h z is = version_is s z is (within_32 z (subst (InBits 31) is (in_bits (schema_form s h).version)))
 
 module _ (b : List ℕ) where
   value_of : (v : Version) (s : Value) → IsSpelled (schema_type v) b s → Of (kinds_of (schema_type v)) s

@@ -6,3 +6,5 @@ pub mod Laws
 pub mod Reading
 pub mod SchemaText
 pub mod Telling
+pub mod Standing
+pub mod Table

@@ -1,11 +1,17 @@
 -- What is read of a schema's value, and what each step of the walk over its layouts has done.
-use Rattle.std.specs.Prelude.{◌≡◌, ℕ, ◌+◌, ◌≤◌, ℤ, nat_abs, if◌then◌else◌, List, [], ◌∷◌, ◌++◌}
+use Rattle.std.specs.Prelude.{◌≡◌, ℕ, ◌+◌, ◌≤◌, ℤ, nat_abs, if◌then◌else◌, List, [], ◌∷◌, ◌++◌, map}
+use Rattle.std.specs.List.{AllByRecursion}
 use Rattle.std.specs.Prelude.{Option, Some, None, Result, Ok, Err}
-use Rattle.frozen_model.specs.Values.{Value, Values, Of}
+use Rattle.frozen_model.specs.Trees.{AMap}
+use Rattle.frozen_model.specs.Values.{Value, Values, Items, Of}
 use Rattle.frozen_model.specs.Layouts.{Version}
-use Rattle.idl_profile.specs.Types.{scalar, i16, map_of}
+use Rattle.compact_wire.specs.declared.kind.Kind.TheVariants as k
+use Rattle.compact_wire.specs.Reads.{value}
+use Rattle.compact_codec.specs.Building.{IsClean}
+use Rattle.idl_profile.specs.Types.{TypeTree, scalar, i16, map_of}
+use Rattle.idl_parse.specs.Refs.{type_of_ref}
+use Rattle.key_order.specs.InOrder.{row}
 use Rattle.type_kinds.specs.KindsOf.{kinds_of}
-use Rattle.typed_tree.specs.Parts.{items_of}
 use Rattle.typed_tree.specs.References.{value_of_ref}
 use Rattle.layout_tree.specs.declared.node.NodeSpec.{NodeSpec}
 use Rattle.layout_tree.specs.declared.node.Kind.{Kind}
@@ -14,11 +20,14 @@ use Rattle.layout_schema.specs.declared.fault.SchemaFault.TheVariants as fault
 use Rattle.layout_schema.specs.declared.entries.Entries.{Entries}
 use Rattle.layout_schema.specs.declared.entries.EntryRef.{EntryRef}
 use Rattle.layout_schema.specs.declared.entries.ChildRef.{ChildRef}
+use Rattle.layout_schema.specs.declared.table.LayoutBytes.{LayoutBytes}
 use Rattle.layout_schema.specs.declared.entering.Place.{Place}
 use Rattle.layout_schema.specs.declared.entering.Place.TheVariants as p
 use Rattle.layout_schema.specs.declared.entering.At.{At}
 use Rattle.layout_schema.specs.declared.walk.Widths.{Widths}
 use Rattle.layout_schema.specs.Schemas.{layout_type, schema_type}
+use Rattle.layout_schema.specs.Standing.{spelled_as}
+use Rattle.layout_schema.specs.Table.{layout_value, IsWhole}
 use Rattle.layout_schema.specs.Shapes as shapes
 use Rattle.layout_schema.specs.Shapes.{Walked, entry_in, is_inline, greatest_of, done}
 
@@ -27,16 +36,41 @@ use Rattle.layout_schema.specs.Shapes.{Walked, entry_in, is_inline, greatest_of,
 abbrev pub IsSchemaValue : Value → Type 0
 IsSchemaValue s = (v : Version) × Of (kinds_of (schema_type v)) s
 
+-- the bytes spell a value of the type, which is a version's
+pub record IsSpelledSchema (t : TypeTree) (b : List ℕ) : Type 0 where
+  pub version : Version
+  pub typed : t ≡ schema_type version
+  pub clean : IsClean t (value 64 k.Struct b)
+  pub kinds : Of (kinds_of (schema_type version)) (spelled_as t b)
+
 abbrev pub AreLayouts : Value → Type 0
 AreLayouts m = (v : Version) × Of (kinds_of (map_of (scalar i16) (layout_type v))) m
 
 abbrev pub IsLayoutValue : Value → Type 0
 IsLayoutValue x = (v : Version) × Of (kinds_of (layout_type v)) x
 
+-- the bytes spell a layout of the type, which is a version's
+pub record IsSpelledLayout (e : Entries) (x : LayoutBytes) : Type 0 where
+  pub version : Version
+  pub typed : type_of_ref e.ty ≡ layout_type version
+  pub whole : IsWhole (type_of_ref e.ty) x
+  pub layout : IsLayoutValue (spelled_as (type_of_ref e.ty) x.bytes.now)
+
 -- ---- what references and places stand for
 
 abbrev pub layouts_told : Entries → Values
-layouts_told e = items_of (value_of_ref e.layouts)
+layouts_told e = row (map (layout_value (type_of_ref e.ty)) e.layouts.now)
+
+-- the layouts are of a version's type, and each is spelled
+pub record AreEntries (e : Entries) : Type 0 where
+  pub version : Version
+  pub typed : type_of_ref e.ty ≡ layout_type version
+  pub layouts : AreLayouts (Items AMap (layouts_told e))
+  pub whole : AllByRecursion (IsWhole (type_of_ref e.ty)) e.layouts.now
+
+-- what the bytes of a layout say of a node
+abbrev pub bytes_told : Entries → LayoutBytes → shapes.Entry
+bytes_told e x = entry_in (spelled_as (type_of_ref e.ty) x.bytes.now)
 
 abbrev pub entry_told : EntryRef → shapes.Entry
 entry_told e = entry_in (value_of_ref e.layout)

@@ -7,8 +7,6 @@ use Rattle.compact_wire.specs.Spells.{SpellsWire}
 use Rattle.wire_scan.specs.Scanned.{IsScanned}
 use Rattle.idl_profile.specs.Types.{TypeTree}
 use Rattle.type_kinds.specs.KindsOf.{kinds_of}
-use Rattle.typed_tree.specs.declared.tree.Tree.{Tree}
-use Rattle.typed_tree.specs.References.{value_of_tree}
 use Rattle.typed_reading.specs.declared.fault.Found.{Found}
 use Rattle.typed_reading.specs.declared.fault.ValueFault.{ValueFault}
 use Rattle.typed_reading.specs.declared.fault.ValueFault.TheVariants as value
@@ -21,6 +19,7 @@ use Rattle.layout_schema.specs.declared.fault.SchemaFault.{SchemaFault}
 use Rattle.layout_schema.specs.declared.fault.SchemaFault.TheVariants as fault
 use Rattle.layout_schema.specs.Schemas.{schema_type}
 use Rattle.layout_schema.specs.Shapes.{version_in}
+use Rattle.layout_schema.specs.Standing.{spelled_as}
 use Rattle.layout_schema.specs.Answers.{IsSaid, IsSchemaFault}
 
 -- ---- the bytes as a value of a type
@@ -45,16 +44,12 @@ abbrev pub IsSpelled : TypeTree → List ℕ → Value → Type 0
 IsSpelled t b v = (w : Node) × SpellsWire w b × Typed t w v
 
 -- what the bytes are, read as the type: a value of it, or the fault of their spelling or of the least faulty node
-abbrev pub IsReadAs : TypeTree → List ℕ → Result Value SchemaFault → Type 0
-IsReadAs t b (Ok v) = IsSpelled t b v
+abbrev pub IsReadAs : TypeTree → List ℕ → Result (Unit {0}) SchemaFault → Type 0
+IsReadAs t b (Ok u) = IsSpelled t b (spelled_as t b)
 IsReadAs t b (Err (fault.Spelling f)) = IsScanned b (Err f)
 IsReadAs t b (Err (fault.Fields n)) = IsFaultyAt t b n
 IsReadAs t b (Err fault.NoMemory) = Unit {0}
 IsReadAs t b (Err _) = ⊥
-
-abbrev pub value_told : Result Tree SchemaFault → Result Value SchemaFault
-value_told (Ok tree) = Ok (value_of_tree tree)
-value_told (Err f) = Err f
 
 -- ---- the layout of a value
 

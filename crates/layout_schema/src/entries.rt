@@ -1,16 +1,24 @@
-//! The layouts of a schema's value, by their numbers.
+//! The layouts of a schema by their numbers, each built as a value where it is asked for.
 
-ghost use Rattle.std.specs.Prelude.{◌≡◌, ◌<◌, IfSome, option_map, length, slice_get, Some};
-ghost use Rattle.typed_tree.specs.References.{value_of_ref};
-ghost use Rattle.layout_schema.specs.Shapes.{entry_of, is_walked, unwalked};
-ghost use Rattle.layout_schema.specs.Reading.{AreLayouts, IsLayoutValue, entry_told, child_told, layouts_told};
+ghost use Rattle.std.specs.Prelude.{◌≡◌, ◌<◌, IfOk, IfErr, IfSome, option_map, length, slice_get, Some};
+ghost use Rattle.typed_tree.specs.References.{value_of_ref, value_of_tree};
+ghost use Rattle.layout_schema.specs.declared.fault.SchemaFault.{SchemaFault};
+ghost use Rattle.layout_schema.specs.Shapes.{entry_in, entry_of, is_walked, unwalked};
+ghost use Rattle.layout_schema.specs.Reading.{AreEntries, IsLayoutValue, IsSpelledLayout};
+ghost use Rattle.layout_schema.specs.Reading.{bytes_told, entry_told, child_told, layouts_told};
 
-use typed_tree::TreeRef;
+use crate::fault::SchemaFault;
+use crate::table::LayoutBytes;
+use compact_codec::build;
+use std::alloc::Global;
+use thrift_idl::TypeRef;
+use typed_tree::{Room, Tree, TreeRef};
 
-/// The layouts of a schema.
+/// The layouts of a schema, by rising number, and their type.
 #[derive(Clone, Copy)]
 pub(crate) struct Entries<'a> {
-    pub(crate) layouts: TreeRef<'a>,
+    pub(crate) ty: TypeRef<'a>,
+    pub(crate) layouts: &'a [LayoutBytes<'a>],
 }
 
 /// What a schema says of one node: a value of the type `Layout`.
@@ -35,21 +43,28 @@ fn is_among_first(count: u32, number: i64) -> bool
 }
 
 impl<'a> Entries<'a> {
-    /// The layout of this number, found by halving. `None` exactly where there is none.
-    pub(crate) fn entry(self, number: u32) -> Option<EntryRef<'a>>
-        requires { AreLayouts (value_of_ref self.layouts) }
-        ensures is { option_map entry_told result ≡ entry_of (layouts_told self.entry) number }
-        ensures formed { IfSome result (λ e. IsLayoutValue (value_of_ref e.layout)) }
+    // The layout at a place from 0.
+    fn layout_at(self, place: usize) -> LayoutBytes<'a>
+        requires { place < length self.layouts.now }
+        ensures { slice_get self.entry.layouts.now place ≡ Some result }
     {
-        let layouts = self.layouts;
+        self.layouts[place]
+    }
+
+    // The layout of this number, found by halving. `None` exactly where there is none.
+    fn layout(self, number: u32) -> Option<LayoutBytes<'a>>
+        requires { AreEntries self }
+        ensures is { option_map (bytes_told self.entry) result ≡ entry_of (layouts_told self.entry) number }
+        ensures formed { IfSome result (λ layout. IsSpelledLayout self.entry layout) }
+    {
         let mut low = 0;
-        let mut high = layouts.len();
+        let mut high = self.layouts.len();
         while low < high {
             let middle = low + (high - low) / 2;
-            let (key, layout) = layouts.entry(middle);
-            let key = key.int();
+            let layout = self.layout_at(middle);
+            let key = i64::from(layout.number);
             if key == i64::from(number) {
-                return Some(EntryRef { layout });
+                return Some(layout);
             }
             if key < i64::from(number) {
                 low = middle + 1;
@@ -60,17 +75,32 @@ impl<'a> Entries<'a> {
         None
     }
 
+    /// The layout of this number, as a value. `None` exactly where there is none.
+    pub(crate) fn entry(self, alloc: Global, number: u32) -> Result<Option<Tree>, SchemaFault>
+        requires { AreEntries self }
+        ensures is { IfOk result (λ found. option_map (λ tree. entry_in (value_of_tree tree)) found
+            ≡ entry_of (layouts_told self.entry) number) }
+        ensures formed { IfOk result (λ found. IfSome found (λ tree. IsLayoutValue (value_of_tree tree))) }
+        ensures full { IfErr result (λ fault. fault ≡ SchemaFault.NoMemory) }
+    {
+        let Some(layout) = self.layout(number) else {
+            return Ok(None);
+        };
+        match build(alloc, self.ty, Room::NONE, layout.bytes) {
+            Ok(tree) => Ok(Some(tree)),
+            Err(_) => Err(SchemaFault::NoMemory),
+        }
+    }
+
     /// The least number of a layout that is none of the first so many.
     pub(crate) fn unwalked(self, walked: u32) -> Option<i16>
-        requires { AreLayouts (value_of_ref self.layouts) }
+        requires { AreEntries self }
         ensures { result ≡ unwalked (layouts_told self.entry) walked }
     {
-        let layouts = self.layouts;
-        for i in 0..layouts.len() {
-            let (key, _) = layouts.entry(i);
-            let key = key.int();
-            if !is_among_first(walked, key) {
-                return Some(key as i16);
+        for i in 0..self.layouts.len() {
+            let layout = self.layout_at(i);
+            if !is_among_first(walked, i64::from(layout.number)) {
+                return Some(layout.number);
             }
         }
         None
@@ -78,6 +108,13 @@ impl<'a> Entries<'a> {
 }
 
 impl<'a> EntryRef<'a> {
+    /// The layout that was built.
+    pub(crate) fn of(tree: &'a Tree) -> EntryRef<'a>
+        ensures { value_of_ref result.layout ≡ value_of_tree tree.now }
+    {
+        EntryRef { layout: tree.top() }
+    }
+
     /// The size in bytes, which is 0 in each schema that is read.
     pub(crate) fn size(self) -> i64
         requires { IsLayoutValue (value_of_ref self.layout) }

@@ -4,9 +4,11 @@
 mod entering;
 mod entries;
 mod fault;
+mod fields;
 mod laws;
 mod pieces;
 mod reading;
+mod table;
 mod types;
 mod walk;
 mod write;

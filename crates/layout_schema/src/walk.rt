@@ -3,18 +3,24 @@
 ghost use Rattle.std.specs.Prelude.{◌≡◌, ◌≤◌, ◌<◌, ◌+◌, ◌^◌, ◌++◌, ◌∷◌, [], ◌&&◌, ℕ, pos, nat_le, true};
 ghost use Rattle.std.specs.Prelude.{Ok, IfOk, OnOk, IfErr, length};
 ghost use Rattle.std.specs.Ordering.{int_eq};
+ghost use Rattle.frozen_model.specs.Layouts.{Version};
+ghost use Rattle.idl_parse.specs.Refs.{type_of_ref};
 ghost use Rattle.typed_tree.specs.References.{value_of_ref};
 ghost use Rattle.layout_schema.specs.Shapes as shapes;
-ghost use Rattle.layout_schema.specs.Reading.{AreLayouts, IsLayoutValue, IsSchemaValue, Walks, Finishes};
+ghost use Rattle.layout_schema.specs.Schemas.{layout_type, schema_type};
+ghost use Rattle.layout_schema.specs.Standing.{spelled_as};
+ghost use Rattle.layout_schema.specs.Reading.{AreEntries, IsLayoutValue, IsSpelledSchema, Walks, Finishes};
 ghost use Rattle.layout_schema.specs.Reading.{IsAtFault, AreSmall, entry_told, place_told, at_told};
 ghost use Rattle.layout_schema.specs.Reading.{layouts_told, node_at, with_child as with_child_of};
 
 use crate::entering::{At, Place, greatest_of, is_named, kind_named, may_enter};
 use crate::entries::{Entries, EntryRef};
 use crate::fault::SchemaFault;
+use crate::fields::number_of_field;
+use crate::table::schema_layouts;
 use layout_tree::{Kind, NodeSpec};
 use std::alloc::Global;
-use typed_tree::TreeRef;
+use thrift_idl::TypeRef;
 
 /// The inline bits of a part, and the most that they are at the greatest widths.
 #[derive(Clone, Copy)]
@@ -117,8 +123,13 @@ fn push_node(
 
 /// Walks the part that begins with the next node, which is entered there, and appends its nodes.
 #[cycle(walk)]
-fn walk_part(entries: Entries<'_>, nodes: &mut Vec<NodeSpec>, at: At) -> Result<Widths, SchemaFault>
-    requires layouts { AreLayouts (value_of_ref entries.layouts) }
+fn walk_part(
+    alloc: Global,
+    entries: Entries<'_>,
+    nodes: &mut Vec<NodeSpec>,
+    at: At,
+) -> Result<Widths, SchemaFault>
+    requires layouts { AreEntries entries }
     requires few { length nodes.now.items ≤ 4096 }
     ensures walks { (room : ℕ) → 4096 ≤ room + length nodes.old.items
         → Walks nodes.old.items nodes.new.items result
@@ -129,9 +140,11 @@ fn walk_part(entries: Entries<'_>, nodes: &mut Vec<NodeSpec>, at: At) -> Result<
     ensures small { IfOk result (λ widths. AreSmall widths) }
 {
     let number = nodes.len() as u32;
-    let Some(entry) = entries.entry(number) else {
+    let found = entries.entry(alloc, number)?;
+    let Some(tree) = found else {
         return Err(fault_at(number));
     };
+    let entry = EntryRef::of(&tree);
     let Some(kind) = kind_named(entry.name()) else {
         return Err(fault_at(number));
     };
@@ -139,13 +152,14 @@ fn walk_part(entries: Entries<'_>, nodes: &mut Vec<NodeSpec>, at: At) -> Result<
         return Err(fault_at(number));
     }
     push_node(nodes, at, entry, kind)?;
-    let below = walk_children(entries, nodes, entry, kind, at.level, number)?;
+    let below = walk_children(alloc, entries, nodes, entry, kind, at.level, number)?;
     finish(number, entry, kind, below)
 }
 
 // Walks the children of a node of this kind, level and number, of which no node is appended yet.
 #[cycle(walk)]
 fn walk_children(
+    alloc: Global,
     entries: Entries<'_>,
     nodes: &mut Vec<NodeSpec>,
     entry: EntryRef<'_>,
@@ -153,7 +167,7 @@ fn walk_children(
     level: u32,
     parent: u32,
 ) -> Result<Widths, SchemaFault>
-    requires layouts { AreLayouts (value_of_ref entries.layouts) }
+    requires layouts { AreEntries entries }
     requires layout { IsLayoutValue (value_of_ref entry.layout) }
     requires few { length nodes.now.items ≤ 4096 }
     requires level { level ≤ 32 }
@@ -183,24 +197,40 @@ fn walk_children(
             field: child.field,
             offset,
         };
-        let part = walk_part(entries, nodes, at)?;
+        let part = walk_part(alloc, entries, nodes, at)?;
         widths = widths.with_child(place, part);
     }
     Ok(widths)
 }
 
-/// The nodes of the layout that a schema's value says, in preorder; else the number of the layout at fault.
-pub(crate) fn read_shape(alloc: Global, schema: TreeRef<'_>) -> Result<Vec<NodeSpec>, SchemaFault>
-    requires { IsSchemaValue (value_of_ref schema) }
-    ensures nodes { IfOk result (λ nodes. shapes.shape_in (value_of_ref schema.entry) ≡ Ok nodes.items) }
-    ensures fault { IfErr result (λ fault. IsAtFault fault (shapes.shape_in (value_of_ref schema.entry))) }
+// The type of the layouts in a schema of this type.
+fn layout_ref(ty: TypeRef<'_>) -> TypeRef<'_>
+    requires { (v : Version) × (type_of_ref ty ≡ schema_type v) }
+    ensures { (v : Version) → type_of_ref ty.entry ≡ schema_type v → type_of_ref result ≡ layout_type v }
 {
-    let root = schema.field_at(2).int();
+    ty.field_at(1).ty().value()
+}
+
+/// The nodes of the layout that the schema's bytes say, in preorder; else the number of the layout at fault.
+pub(crate) fn read_shape(
+    alloc: Global,
+    ty: TypeRef<'_>,
+    bytes: &[u8],
+) -> Result<Vec<NodeSpec>, SchemaFault>
+    requires { IsSpelledSchema (type_of_ref ty) bytes.now }
+    ensures nodes { IfOk result (λ nodes.
+        shapes.shape_in (spelled_as (type_of_ref ty.entry) bytes.now) ≡ Ok nodes.items) }
+    ensures fault { IfErr result (λ fault.
+        IsAtFault fault (shapes.shape_in (spelled_as (type_of_ref ty.entry) bytes.now))) }
+{
+    let root = number_of_field(bytes, 3);
     if root != 0 {
         return Err(SchemaFault::Shape(root as i32));
     }
+    let layouts = schema_layouts(alloc, bytes)?;
     let entries = Entries {
-        layouts: schema.field_at(1),
+        ty: layout_ref(ty),
+        layouts: layouts.as_slice(),
     };
     let mut nodes = Vec::new(alloc);
     let at = At {
@@ -210,7 +240,7 @@ pub(crate) fn read_shape(alloc: Global, schema: TreeRef<'_>) -> Result<Vec<NodeS
         field: 0,
         offset: 0,
     };
-    walk_part(entries, &mut nodes, at)?;
+    walk_part(alloc, entries, &mut nodes, at)?;
     match entries.unwalked(nodes.len() as u32) {
         Some(number) => Err(SchemaFault::Shape(i32::from(number))),
         None => Ok(nodes),

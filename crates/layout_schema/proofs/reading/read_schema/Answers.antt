@@ -1,13 +1,17 @@
-use Rattle.std.proofs.Common.{Err, sym, subst}
-use Rattle.frozen_model.specs.Values.{Value}
+use Rattle.std.proofs.Common.{◌≡◌, ◌∙◌, Err, subst}
 use Rattle.frozen_model.specs.Layouts.{Version1}
+use Rattle.idl_profile.specs.Types.{TypeTree}
+use Rattle.idl_parse.specs.Refs.{type_of_ref}
 use Rattle.layout_schema.specs.Schemas.{schema_type}
-use Rattle.layout_schema.specs.Telling.{IsSpelled}
+use Rattle.layout_schema.specs.Standing.{spelled_as}
+use Rattle.layout_schema.specs.Telling.{IsSpelled, IsReadAs}
 use Rattle.layout_schema.proofs.ReadSchema.{first_faulty, layout_answer, fault_answer, only_answer}
 use Rattle.layout_schema.proofs.reading.read_schema.Goals as goal
 
 pub read_version-requires : goal.read_version-requires
-read_version-requires c = subst (λ (s : Value). IsSpelled (schema_type Version1) c.args.bytes.now s) (sym c.top.ensures.value) c.in-Ok.ensures
+read_version-requires c =
+    let is : type_of_ref c.root-ty.result ≡ schema_type Version1 = c.root-ty.ensures.tree ∙ c.in_ok-types.ensures.root in
+    record { typed = is; spelled = subst (λ (t : TypeTree). IsSpelled t c.args.bytes.now (spelled_as t c.args.bytes.now)) is c.in-Ok.ensures }
 
 pub returns-in-Ok : goal.returns-in-Ok
 returns-in-Ok c =
@@ -21,10 +25,11 @@ returns-in-Ok c =
       only = only_answer b r h;
     }
 
-pub returns-in-Err : goal.returns-in-Err
-returns-in-Err c =
+pub returns : goal.returns
+returns c =
     let b = c.args.bytes.now in
-    let h = first_faulty b c.in-Err.fault c.in-Err.ensures in
+    let is : type_of_ref c.root-ty.result ≡ schema_type Version1 = c.root-ty.ensures.tree ∙ c.in_ok-types.ensures.root in
+    let h = first_faulty b c.in-Err.fault (subst (λ (t : TypeTree). IsReadAs t b (Err c.in-Err.fault)) is c.in-Err.ensures) in
     record {
       layout = tt;
       settled = tt;

@@ -1,9 +1,12 @@
-use Rattle.std.proofs.Common.{ℕ, Bool, rules, suc, add-one, ◌≡◌, ◌<◌, ◌≤◌, ◌+◌, ◌++◌, ◌∷◌, [], arith, ap, sym, ◌∙◌, length, length-append, true, false, Some, inl, inr, w16}
+use Rattle.std.proofs.Common.{ℕ, Bool, rules, suc, add-one, ◌≡◌, ◌<◌, ◌≤◌, ◌+◌, ◌++◌, ◌∷◌, [], arith, ap, sym, subst, ◌∙◌, length, length-append, true, false, Some, inl, inr, w16}
 use Rattle.std.proofs.lemmas.Int.{to_z-of_z}
 use Rattle.std.proofs.lemmas.Result.{err_from_is_err_and}
 use mir.Val.{SFits, to_z, of_z}
-use Rattle.layout_schema.specs.Shapes.{entry_of, kind_named, may_enter, is_named, place_of, walk_part}
-use Rattle.layout_schema.specs.Reading.{entry_told, child_told, layouts_told, at_told, place_told, node_at}
+use Rattle.std.specs.Prelude.{Option, IfSome, option_map}
+use Rattle.typed_tree.specs.declared.tree.Tree.{Tree}
+use Rattle.typed_tree.specs.References.{value_of_tree}
+use Rattle.layout_schema.specs.Shapes.{entry_in, entry_of, kind_named, may_enter, is_named, place_of, walk_part}
+use Rattle.layout_schema.specs.Reading.{IsLayoutValue, entry_told, child_told, layouts_told, at_told, place_told, node_at}
 use Rattle.layout_schema.proofs.ReadWalk.{IsFound, IsNext, entering, barred, opened, at_fault, part_faulty, part_walked, inline_offset, named_offset, wider_bits, wider_greatest, stops_unnamed, stops_faulty, goes_on, children_walked}
 use Rattle.layout_schema.proofs.walk.+walk.Goals as goal
 use Rattle.layout_schema.proofs.walk.+walk.Goals.{walk_part-After-may_enter, walk_children-After-is_named, walk_children-then-is_inline, walk_children-else-is_inline}
@@ -11,16 +14,16 @@ use Rattle.layout_schema.proofs.walk.+walk.Goals.{walk_part-After-may_enter, wal
 -- ---- a part
 
 -- the node that is asked for
-part_found : (t : ℕ) (c : walk_part-After-may_enter t) (enters : Bool) → c.may_enter.result ≡ enters → IsFound (layouts_told c.args.entries) (length c.args.nodes.now.items) (at_told c.args.at) (entry_told c.in-Some.entry) c.in-Some-kind_named.kind enters
+part_found : (t : ℕ) (c : walk_part-After-may_enter t) (enters : Bool) → c.may_enter.result ≡ enters → IsFound (layouts_told c.args.entries) (length c.args.nodes.now.items) (at_told c.args.at) (entry_told c.of-entry.result) c.in-Some-kind_named.kind enters
 part_found t c enters e =
     let ls = layouts_told c.args.entries in
     let is : c.len-number.result ≡ length c.args.nodes.now.items = omega (arith, c.len-number.ensures, c.args.nodes.now.ok.0) in
-    let found : Some (entry_told c.in-Some.entry) ≡ entry_of ls c.len-number.result = c.in-Some.ensures.is in
+    let found : Some (entry_told c.of-entry.result) ≡ entry_of ls c.len-number.result = ap (λ v. Some (entry_in v)) c.of-entry.ensures ∙ sym (ap (option_map (λ (tree : Tree). entry_in (value_of_tree tree))) c.in-Some.is) ∙ c.in_ok-found.ensures.is in
     let named : Some c.in-Some-kind_named.kind ≡ kind_named c.name.result.now = c.in-Some-kind_named.ensures in
     record {
       entry = ap (entry_of ls) (sym is) ∙ sym found;
       kind = ap kind_named (sym c.name.ensures) ∙ sym named;
-      test = ap (λ n. may_enter (at_told c.args.at) n (entry_told c.in-Some.entry) c.in-Some-kind_named.kind) (sym is) ∙ sym c.may_enter.ensures ∙ e;
+      test = ap (λ n. may_enter (at_told c.args.at) n (entry_told c.of-entry.result) c.in-Some-kind_named.kind) (sym is) ∙ sym c.may_enter.ensures ∙ e;
     }
 
 pub walk_part-returns-then-not-may_enter-clause-walks : goal.walk_part-returns-then-not-may_enter-clause-walks
@@ -28,7 +31,7 @@ walk_part-returns-then-not-may_enter-clause-walks t c room much =
     let ls = layouts_told c.args.entries in
     let at = at_told c.args.at in
     let n = length c.args.nodes.now.items in
-    let x = entry_told c.in-Some.entry in
+    let x = entry_told c.of-entry.result in
     let k = c.in-Some-kind_named.kind in
     let is : c.len-number.result ≡ n = omega (arith, c.len-number.ensures, c.args.nodes.now.ok.0) in
     let found = part_found t (goal.at.walk_part-returns-then-not-may_enter-clause-walks t c).After-may_enter false c.if-not-may_enter.true in
@@ -37,20 +40,21 @@ walk_part-returns-then-not-may_enter-clause-walks t c room much =
 pub walk_part-walk_children-requires : goal.walk_part-walk_children-requires
 walk_part-walk_children-requires t c =
     let at = at_told c.args.at in
-    let x = entry_told c.in-Some.entry in
+    let x = entry_told c.of-entry.result in
     let k = c.in-Some-kind_named.kind in
     let in_there = entering at c.len-number.result x k (sym c.may_enter.ensures ∙ c.if-not-may_enter.false) in
+    let formed = subst (λ (o : Option Tree). IfSome o (λ (tree : Tree). IsLayoutValue (value_of_tree tree))) c.in-Some.is c.in_ok-found.ensures.formed in
     let pushed : c.push_node.new.nodes.items ≡ c.args.nodes.now.items ++ node_at at x k ∷ [] = c.in_ok-push_node.ensures.pushed in
     let more : length c.push_node.new.nodes.items ≡ length c.args.nodes.now.items + 1 = ap length pushed ∙ length-append c.args.nodes.now.items (node_at at x k ∷ []) in
     let lt : length c.args.nodes.now.items < 4096 = omega (arith, c.len-number.ensures, c.args.nodes.now.ok.0, in_there.number) in
-    (omega (arith, c.decreases, more, lt), (c.requires.layouts, (c.in-Some.ensures.formed, (omega (arith, more, lt), in_there.level))))
+    (omega (arith, c.decreases, more, lt), (c.requires.layouts, ((subst IsLayoutValue (sym c.of-entry.ensures) formed), (omega (arith, more, lt), in_there.level))))
 
 pub walk_part-returns-in_err-below-clause-walks : goal.walk_part-returns-in_err-below-clause-walks
 walk_part-returns-in_err-below-clause-walks t c room much =
     let ls = layouts_told c.args.entries in
     let at = at_told c.args.at in
     let n = length c.args.nodes.now.items in
-    let x = entry_told c.in-Some.entry in
+    let x = entry_told c.of-entry.result in
     let k = c.in-Some-kind_named.kind in
     let is : c.len-number.result ≡ n = omega (arith, c.len-number.ensures, c.args.nodes.now.ok.0) in
     let found = part_found t (goal.at.walk_part-returns-in_err-below-clause-walks t c).After-may_enter true c.if-not-may_enter.false in
@@ -62,14 +66,14 @@ walk_part-returns-in_err-below-clause-walks t c room much =
 
 pub walk_part-finish-requires-clause-width : goal.walk_part-finish-requires-clause-width
 walk_part-finish-requires-clause-width t c =
-    (entering (at_told c.args.at) c.len-number.result (entry_told c.in-Some.entry) c.in-Some-kind_named.kind (sym c.may_enter.ensures ∙ c.if-not-may_enter.false)).width
+    (entering (at_told c.args.at) c.len-number.result (entry_told c.of-entry.result) c.in-Some-kind_named.kind (sym c.may_enter.ensures ∙ c.if-not-may_enter.false)).width
 
 pub walk_part-returns-clause-walks : goal.walk_part-returns-clause-walks
 walk_part-returns-clause-walks t c room much =
     let ls = layouts_told c.args.entries in
     let at = at_told c.args.at in
     let n = length c.args.nodes.now.items in
-    let x = entry_told c.in-Some.entry in
+    let x = entry_told c.of-entry.result in
     let k = c.in-Some-kind_named.kind in
     let is : c.len-number.result ≡ n = omega (arith, c.len-number.ensures, c.args.nodes.now.ok.0) in
     let found = part_found t (goal.at.walk_part-returns-clause-walks t c).After-may_enter true c.if-not-may_enter.false in

@@ -4,7 +4,7 @@ use Rattle.std.specs.Prelude.{pos}
 use Rattle.frozen_model.specs.Values.{count}
 use Rattle.layout_schema.specs.Reading.{layouts_told}
 use Rattle.layout_schema.proofs.ReadEntries.{key_at}
-use Rattle.layout_schema.proofs.entries.Entries.entry.Given as goal
+use Rattle.layout_schema.proofs.entries.Entries.layout.Given as goal
 
 abbrev pub invariant-loop-low : goal.invariant-loop-low
 invariant-loop-low l = record {

@@ -15,19 +15,10 @@ use Rattle.layout_tree.proofs.Children.{Child, FieldsAt, struct_at, first_child,
 use Rattle.typed_tree.specs.Parts.{fields_of}
 use Rattle.bit_view.specs.Lying.{HasPart}
 use Rattle.bit_view.specs.InPlace.{read_value, read_fields}
+use Rattle.bit_view.specs.Branches.{fields_in, layout_nth}
 use Rattle.bit_view.proofs.Places.{Here, part_of_part}
 
-abbrev pub fields_in : Layout → Layouts
-fields_in (Struct ls) = ls
-fields_in m = NoField
-
--- the layout of the field at a place, its node where the first one's is i, and its first bit where the first
--- one's is b
-abbrev pub layout_nth : Layouts → ℕ → Layout
-layout_nth NoField j = Struct NoField
-layout_nth (Field f l ls) zero = l
-layout_nth (Field f l ls) (suc j) = layout_nth ls j
-
+-- the node of the field at a place, where the first one's is i, and its first bit where the first one's is b
 abbrev pub node_nth : Layouts → ℕ → ℕ → ℕ
 node_nth NoField i j = i
 node_nth (Field f l ls) i zero = i

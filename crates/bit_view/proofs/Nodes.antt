@@ -11,7 +11,7 @@ use Rattle.frozen_model.specs.Layouts.{Version, Layout}
 use Rattle.layout_tree.specs.Listing.{Noted, AllNoted, layout_in, sub, sub_all}
 use Rattle.layout_tree.proofs.Subs.{part_low, part_low_all, part_high, below_test, above_test}
 use Rattle.layout_tree.proofs.Place.{some_nodes}
-use Rattle.measure_pass.proofs.Stays.{told_child}
+use Rattle.layout_tree.proofs.Told.{told_child}
 
 -- ---- a number is that of a part, or not
 

@@ -1,18 +1,17 @@
 -- Fields by their ids, and their offsets in the list of nodes.
 use Rattle.std.proofs.Common.{◌≡◌, ℕ, zero, suc, ◌+◌, ◌-◌, ◌≤◌, ◌<◌, ◌∷◌, [], ◌++◌, List, length, arith, refl}
-use Rattle.std.proofs.Common.{ap, sym}
-use Rattle.std.proofs.Common.{◌∙◌, subst, nat_eq, if◌then◌else◌, Bool, true, false, Option, Some, ℤ, pos}
-use Rattle.std.proofs.Common.{negsuc, w16, get_or, map, slice_get, append_assoc}
+use Rattle.std.proofs.Common.{ap, sym, ◌∙◌, subst, nat_eq, if◌then◌else◌, Bool, true, false, Some}
+use Rattle.std.proofs.Common.{None, ℤ, pos, negsuc, w16, get_or, map, slice_get, append_assoc, ◌⊎◌, inl, inr}
 use Rattle.std.specs.Prelude.{IsSome, FitsSigned}
 use Rattle.std.specs.Ordering.{int_eq}
 use Rattle.std.proofs.lemmas.Int.{ints}
+use Rattle.std.proofs.lemmas.Bool.{ne_eqb}
 use Rattle.std.proofs.lemmas.Bool.Decides.{nat_tests}
 use Rattle.std.proofs.lemmas.List.{get_or-append_right}
 use Rattle.frozen_model.specs.Bits.{field}
 use Rattle.frozen_model.specs.Trees.{Leaf, ByteRange, ItemRange, Optional, Struct, NoField, Field, nodes}
-use Rattle.frozen_model.specs.Trees.{ids_of, Rising, IsFormed, AllFormed, Part, itself, in_item, in_optional}
-use Rattle.frozen_model.specs.Trees.{in_struct, PartAll, in_first, in_later}
-use Rattle.frozen_model.specs.Values.{Value, Values, Absent, Present, nth}
+use Rattle.frozen_model.specs.Trees.{ids_of, Rising, Part}
+use Rattle.frozen_model.specs.Values.{Value, Values, One, Bytes, Items, Absent, Present, Record, nth}
 use Rattle.frozen_model.specs.Layouts.{Version, Layout, Layouts, stride}
 use Rattle.layout_tree.specs.declared.node.NodeSpec.{NodeSpec}
 use Rattle.layout_tree.specs.declared.node.Kind.TheVariants as kinds
@@ -23,10 +22,11 @@ use Rattle.layout_tree.specs.Reading.{field_node}
 use Rattle.layout_tree.proofs.Readings.{same_nodes, stride_inline}
 use Rattle.layout_tree.proofs.Place.{At, at_part, length_nodes}
 use Rattle.layout_tree.proofs.Kin.{int_other, int_same}
-use Rattle.typed_tree.specs.Parts.{find_field, field_of, fields_of}
+use Rattle.typed_tree.specs.Parts.{IsRecord, find_field, field_of, fields_of}
 use Rattle.typed_tree.specs.Fields.{id_number}
 use Rattle.bit_view.specs.InPlace.{read_value, read_fields}
-use Rattle.bit_view.proofs.Fields.{fields_in, node_nth, bit_nth}
+use Rattle.bit_view.specs.Branches.{fields_in, layout_nth, field_tree}
+use Rattle.bit_view.proofs.Fields.{node_nth, bit_nth}
 
 -- ---- ids
 
@@ -36,101 +36,140 @@ pub record Found (ls : Layouts) (vs : Values) (i : ℕ) (id : ℤ) (k : ℕ) : T
   pub inside : place < length (ids_of ls)
   pub node : field_node ls i id ≡ Some (node_nth ls i place)
   pub value : find_field (ids_of ls) vs k ≡ Some (nth vs place)
+  pub tree : field_tree ls k ≡ Some (layout_nth ls place)
 
-first_or_later : (bs : List ℕ) (f : ℕ) (l : Layout) (ls : Layouts) (block bit i : ℕ) (id : ℤ) (k : ℕ)
-    → id ≡ pos k
-    → (IsSome (find_field (ids_of ls) (read_fields bs ls block (bit + stride l)) k)
-    → Found ls (read_fields bs ls block (bit + stride l)) (i + nodes l) id k)
-    → (b : Bool) → nat_eq f k ≡ b
-    → IsSome (if b then Some (read_value bs l block bit) else find_field (ids_of ls) (read_fields bs ls block
-    (bit + stride l)) k)
-    → Found (Field f l ls) (read_fields bs (Field f l ls) block bit) i id k
-first_or_later bs f l ls block bit i id k e later true t h =
-    let same : f ≡ k = grind (arith, nat_tests) in
-    let here : int_eq (pos f) id ≡ true = int_same (pos f) id (ap pos same ∙ sym e) in
-    record {
-      place = 0;
-      inside = omega arith;
-      node = ap (λ b. if b then Some i else field_node ls (i + nodes l) id) here;
-      value = ap (λ b. if b then Some (read_value bs l block bit) else find_field (ids_of ls)
-          (read_fields bs ls block (bit + stride l)) k) t;
-    }
-first_or_later bs f l ls block bit i id k e later false t h =
-    let other : f ≡ k → ⊥ = λ s. grind (arith, nat_tests) in
-    let not : int_eq (pos f) id ≡ false = int_other (pos f) id (λ s. other (let z : pos f ≡ pos k = s
-    ∙ e in cc)) in
-    let r = later h in
-    record {
+-- no field has the id
+pub record Missed (ls : Layouts) (vs : Values) (i : ℕ) (id : ℤ) (k : ℕ) : Type 0 where
+  pub node : field_node ls i id ≡ None
+  pub value : find_field (ids_of ls) vs k ≡ None
+  pub tree : field_tree ls k ≡ None
+
+abbrev pub Sought : Layouts → Values → ℕ → ℤ → ℕ → Type 0
+Sought ls vs i id k = Found ls vs i id k ⊎ Missed ls vs i id k
+
+module _ (bs : List ℕ) (f : ℕ) (l : Layout) (ls : Layouts) (block bit i : ℕ) (id : ℤ) (k : ℕ) (e : id ≡ pos k)
+  where
+    abbrev others : Values
+    others = read_fields bs ls block (bit + stride l)
+
+    first_found : nat_eq f k ≡ true → Found (Field f l ls) (read_fields bs (Field f l ls) block bit) i id k
+    first_found t =
+        let same : f ≡ k = grind (arith, nat_tests) in
+        let here : int_eq (pos f) id ≡ true = int_same (pos f) id (ap pos same ∙ sym e) in
+        record {
+          place = 0;
+          inside = omega arith;
+          node = ap (λ b. if b then Some i else field_node ls (i + nodes l) id) here;
+          value = ap (λ b. if b then Some (read_value bs l block bit) else find_field (ids_of ls) others k) t;
+          tree = ap (λ b. if b then Some l else field_tree ls k) t;
+        }
+
+    passed_over : nat_eq f k ≡ false → int_eq (pos f) id ≡ false
+    passed_over t =
+        let other : f ≡ k → ⊥ = λ s. grind (arith, nat_tests) in
+        int_other (pos f) id (λ s. other (let z : pos f ≡ pos k = s ∙ e in cc))
+
+    later_found : nat_eq f k ≡ false → Found ls others (i + nodes l) id k
+        → Found (Field f l ls) (read_fields bs (Field f l ls) block bit) i id k
+    later_found t r = record {
       place = suc r.place;
       inside = omega (arith, r.inside);
-      node = ap (λ b. if b then Some i else field_node ls (i + nodes l) id) not ∙ r.node;
-      value = ap (λ b. if b then Some (read_value bs l block bit) else find_field (ids_of ls)
-          (read_fields bs ls block (bit + stride l)) k) t ∙ r.value;
+      node = ap (λ b. if b then Some i else field_node ls (i + nodes l) id) (passed_over t) ∙ r.node;
+      value = ap (λ b. if b then Some (read_value bs l block bit) else find_field (ids_of ls) others k) t
+          ∙ r.value;
+      tree = ap (λ b. if b then Some l else field_tree ls k) t ∙ r.tree;
     }
 
-pub found : (bs : List ℕ) (ls : Layouts) (block bit i : ℕ) (id : ℤ) (k : ℕ) → id ≡ pos k
-    → IsSome (find_field (ids_of ls) (read_fields bs ls block bit) k)
-    → Found ls (read_fields bs ls block bit) i id k
-found bs NoField block bit i id k e h = absurd cc
-found bs (Field f l ls) block bit i id k e h =
-    first_or_later bs f l ls block bit i id k e (found bs ls block (bit + stride l) (i + nodes l) id k e)
-    (nat_eq f k) refl h
+    all_missed : nat_eq f k ≡ false → Missed ls others (i + nodes l) id k
+        → Missed (Field f l ls) (read_fields bs (Field f l ls) block bit) i id k
+    all_missed t r = record {
+      node = ap (λ b. if b then Some i else field_node ls (i + nodes l) id) (passed_over t) ∙ r.node;
+      value = ap (λ b. if b then Some (read_value bs l block bit) else find_field (ids_of ls) others k) t
+          ∙ r.value;
+      tree = ap (λ b. if b then Some l else field_tree ls k) t ∙ r.tree;
+    }
 
-small_or_later : (f k : ℕ) (x : Value) (r : Option Value) (b : Bool) → nat_eq f k ≡ b → f ≤ 32767
-    → (IsSome r → k ≤ 32767) → IsSome (if b then Some x else r) → k ≤ 32767
-small_or_later f k x r true t le later h = let same : f ≡ k = grind (arith, nat_tests) in omega arith
-small_or_later f k x r false t le later h = later h
+    first_or_later : Sought ls others (i + nodes l) id k → (b : Bool) → nat_eq f k ≡ b
+        → Sought (Field f l ls) (read_fields bs (Field f l ls) block bit) i id k
+    first_or_later later true t = inl (first_found t)
+    first_or_later (inl r) false t = inl (later_found t r)
+    first_or_later (inr r) false t = inr (all_missed t r)
 
-id_small : (bs : List ℕ) (ls : Layouts) (block bit k b : ℕ) → Rising b (ids_of ls)
-    → IsSome (find_field (ids_of ls) (read_fields bs ls block bit) k) → k ≤ 32767
-id_small bs NoField block bit k b r h = absurd cc
-id_small bs (Field f l ls) block bit k b r h =
-    small_or_later f k (read_value bs l block bit) (find_field (ids_of ls) (read_fields bs ls block
-    (bit + stride l)) k)
-    (nat_eq f k) refl r.1 (id_small bs ls block (bit + stride l) k f r.2) h
+look : (bs : List ℕ) (ls : Layouts) (block bit i : ℕ) (id : ℤ) (k : ℕ) → id ≡ pos k
+    → Sought ls (read_fields bs ls block bit) i id k
+look bs NoField block bit i id k e = inr (record { node = refl; value = refl; tree = refl })
+look bs (Field f l ls) block bit i id k e =
+    first_or_later bs f l ls block bit i id k e (look bs ls block (bit + stride l) (i + nodes l) id k e)
+    (nat_eq f k) refl
 
-small_id : (id : ℤ) → FitsSigned w16 id → id_number id ≤ 32767 → id ≡ pos (id_number id)
-small_id (pos n) f h = let e : id_number (pos n) ≡ n = grind (arith, ints) in ap pos (sym e)
-small_id (negsuc n) f h = absurd (grind (arith, ints))
+-- no field has an id below 0
+no_field : (bs : List ℕ) (ls : Layouts) (block bit i n k b : ℕ) → Rising b (ids_of ls) → 32767 < k
+    → Missed ls (read_fields bs ls block bit) i (negsuc n) k
+no_field bs NoField block bit i n k b r h = record { node = refl; value = refl; tree = refl }
+no_field bs (Field f l ls) block bit i n k b r h =
+    let rest = no_field bs ls block (bit + stride l) (i + nodes l) n k f r.2 h in
+    let other : int_eq (pos f) (negsuc n) ≡ false = int_other (pos f) (negsuc n) (λ e. cc) in
+    let far : nat_eq f k ≡ false = ne_eqb f k (λ e. absurd (omega (arith, r.1, h, e))) in
+    record {
+      node = ap (λ b. if b then Some i else field_node ls (i + nodes l) (negsuc n)) other ∙ rest.node;
+      value = ap (λ b. if b then Some (read_value bs l block bit) else find_field (ids_of ls)
+          (read_fields bs ls block (bit + stride l)) k) far ∙ rest.value;
+      tree = ap (λ b. if b then Some l else field_tree ls k) far ∙ rest.tree;
+    }
 
-pub id_is : (bs : List ℕ) (ls : Layouts) (block bit : ℕ) (id : ℤ) → FitsSigned w16 id → Rising 0 (ids_of ls)
-    → IsSome (find_field (ids_of ls) (read_fields bs ls block bit) (id_number id)) → id ≡ pos (id_number id)
-id_is bs ls block bit id f r h = small_id id f (id_small bs ls block bit (id_number id) 0 r h)
+id_from_0 : (n : ℕ) → FitsSigned w16 (pos n) → id_number (pos n) ≡ n
+id_from_0 n f = grind (arith, ints)
 
-no_child : (b : Bool) (x : Value) (id : ℤ) → IsSome (field_of (if b then Present x else Absent) id) → ⊥
-no_child true x id h = absurd cc
-no_child false x id h = absurd cc
+id_below_0 : (n : ℕ) → FitsSigned w16 (negsuc n) → 32767 < id_number (negsuc n)
+id_below_0 n f = grind (arith, ints)
 
-pub record ChildTold (m : Layout) (bs : List ℕ) (block bit : ℕ) (id : ℤ) : Type 0 where
+pub sought : (bs : List ℕ) (ls : Layouts) (block bit i : ℕ) (id : ℤ) → FitsSigned w16 id
+    → Rising 0 (ids_of ls)
+    → Sought ls (read_fields bs ls block bit) i id (id_number id)
+sought bs ls block bit i (pos n) f r =
+    look bs ls block bit i (pos n) (id_number (pos n)) (ap pos (sym (id_from_0 n f)))
+sought bs ls block bit i (negsuc n) f r =
+    inr (no_field bs ls block bit i n (id_number (negsuc n)) 0 r (id_below_0 n f))
+
+pub some_found : {ls : Layouts} {vs : Values} {i k : ℕ} {id : ℤ} → Sought ls vs i id k → (n : ℕ)
+    → field_node ls i id ≡ Some n → Found ls vs i id k
+some_found (inl f) n e = f
+some_found (inr m) n e = let no = m.node in absurd cc
+
+pub none_found : {ls : Layouts} {vs : Values} {i k : ℕ} {id : ℤ} → Sought ls vs i id k
+    → field_node ls i id ≡ None → Missed ls vs i id k
+none_found (inr m) e = m
+none_found (inl f) e = let some = f.node in absurd cc
+
+-- ---- structs
+
+no_record : (b : Bool) (x : Value) → IsRecord (if b then Present x else Absent) → ⊥
+no_record true x h = h
+no_record false x h = h
+
+pub record RecordTold (m : Layout) (bs : List ℕ) (block bit : ℕ) : Type 0 where
   pub is : m ≡ Struct (fields_in m)
-  pub same : field_of (read_value bs m block bit) id
+  pub same : (id : ℤ) → field_of (read_value bs m block bit) id
       ≡ find_field (ids_of (fields_in m)) (read_fields bs (fields_in m) block bit) (id_number id)
   pub values : fields_of (read_value bs m block bit) ≡ read_fields bs (fields_in m) block bit
 
-pub child_told : (m : Layout) (bs : List ℕ) (block bit : ℕ) (id : ℤ)
-    → IsSome (field_of (read_value bs m block bit) id)
-    → ChildTold m bs block bit id
-child_told (Struct ls) bs block bit id h = record { is = refl; same = refl; values = refl }
-child_told (Leaf k c) bs block bit id h = absurd cc
-child_told (ByteRange t d c) bs block bit id h = absurd cc
-child_told (ItemRange g d c l) bs block bit id h = absurd cc
-child_told (Optional w l) bs block bit id h =
-    absurd (no_child (nat_eq (field bs bit w) 1) (read_value bs l block (bit + w)) id h)
+pub record_told : (m : Layout) (bs : List ℕ) (block bit : ℕ) → IsRecord (read_value bs m block bit)
+    → RecordTold m bs block bit
+record_told (Struct ls) bs block bit h = record { is = refl; same = λ id. refl; values = refl }
+record_told (Leaf k c) bs block bit h = absurd h
+record_told (ByteRange t d c) bs block bit h = absurd h
+record_told (ItemRange g d c l) bs block bit h = absurd h
+record_told (Optional w l) bs block bit h =
+    absurd (no_record (nat_eq (field bs bit w) 1) (read_value bs l block (bit + w)) h)
 
--- ---- parts are formed
-
-mutual
-  pub formed_part : (v : Version) {t s : Noted} {i n : ℕ} → Part t i s n → IsFormed (layout_in v t)
-      → IsFormed (layout_in v s)
-  formed_part v itself h = h
-  formed_part v (in_item p) h = formed_part v p h.1
-  formed_part v (in_optional p) h = formed_part v p h.1
-  formed_part v (in_struct p) h = formed_part_all v p h.1
-
-  pub formed_part_all : (v : Version) {ts : AllNoted} {s : Noted} {i n : ℕ} → PartAll ts i s n
-      → AllFormed (layouts_in v ts) → IsFormed (layout_in v s)
-  formed_part_all v (in_first p) h = formed_part v p h.0
-  formed_part_all v (in_later p) h = formed_part_all v p h.1
+-- only a struct has fields
+pub with_field : (v : Value) (id : ℤ) → IsSome (field_of v id) → IsRecord v
+with_field (Record ids vs) id h = tt
+with_field (One x) id h = absurd cc
+with_field (Bytes bs) id h = absurd cc
+with_field (Items g vs) id h = absurd cc
+with_field Absent id h = absurd cc
+with_field (Present v) id h = absurd cc
 
 -- ---- offsets
 

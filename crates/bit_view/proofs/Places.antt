@@ -17,7 +17,7 @@ use Rattle.frozen_laws.proofs.Cells.{whole_cells}
 use Rattle.layout_tree.specs.Listing.{Noted, layout_in, sub}
 use Rattle.bit_view.specs.Lying.{IsPart, HasPart}
 use Rattle.bit_view.specs.InPlace.{read_value}
-use Rattle.measure_pass.proofs.Stays.{told_child}
+use Rattle.layout_tree.proofs.Told.{told_child}
 use Rattle.bit_view.proofs.Nodes.{node_held}
 use Rattle.bit_view.proofs.Telling.{told_is}
 

@@ -1,27 +1,28 @@
 -- What is known of a view.
 use Rattle.std.proofs.Common.{◌≡◌, ℕ, ◌+◌, ◌*◌, ◌≤◌, ◌<◌, ◌^◌, length, arith, refl, ap, sym, ◌∙◌, subst, zero}
-use Rattle.std.proofs.Common.{suc, ℤ, w16, Option, Some, slice_get}
+use Rattle.std.proofs.Common.{suc, ℤ, w16, Option, Some, None, slice_get}
 use Rattle.std.proofs.Math.Logic.{∥∥₁_elim, ∥∥₁_map}
 use Rattle.std.proofs.Math.Bridge.{le_prop}
-use Rattle.std.specs.Prelude.{IsSome, FitsSigned}
+use Rattle.std.specs.Prelude.{FitsSigned}
 use Rattle.frozen_model.specs.Bits.{field}
 use Rattle.frozen_model.specs.Trees.{nodes, ids_of, IsFormed, Rising, Leaf, ByteRange, ItemRange, Optional}
 use Rattle.frozen_model.specs.Trees.{Struct}
-use Rattle.frozen_model.specs.Values.{Value, count, nth}
-use Rattle.frozen_model.specs.Layouts.{Layout, IsDescribed, stride}
+use Rattle.frozen_model.specs.Values.{Value, count, nth, Of}
+use Rattle.frozen_model.specs.Layouts.{Layout, stride}
 use Rattle.frozen_model.specs.Packing.{bytes_for}
 use Rattle.layout_tree.specs.declared.layouts.Layouts.{Layouts}
 use Rattle.layout_tree.specs.declared.node.NodeSpec.{NodeSpec}
-use Rattle.layout_tree.specs.Listing.{tree_of, version_of, sub}
+use Rattle.layout_tree.specs.Listing.{version_of, sub}
 use Rattle.layout_tree.specs.Nodes.{IsNode, IsNumber, noted_in, layout_of, at, listed}
 use Rattle.layout_tree.specs.Reading.{IsRange, IsHolder, IsOptional, distance_width, count_width, isset_width}
 use Rattle.layout_tree.specs.Reading.{item_stride, child_of, field_node}
 use Rattle.layout_tree.proofs.Children.{Child, node_small}
 use Rattle.layout_tree.proofs.Subs.{part_high}
 use Rattle.layout_tree.proofs.Place.{some_nodes}
-use Rattle.layout_tree.proofs.Describing.{described_is}
-use Rattle.layout_tree.proofs.Held.{described_held}
-use Rattle.typed_tree.specs.Parts.{IsBytes, fields_of, field_of}
+use Rattle.layout_tree.proofs.Readings.{formed_part}
+use Rattle.layout_tree.proofs.Told.{part_told}
+use Rattle.layout_tree.proofs.Describing.{kept_described}
+use Rattle.typed_tree.specs.Parts.{IsBytes, IsRecord, fields_of, field_of}
 use Rattle.typed_tree.specs.Fields.{id_number}
 use Rattle.bit_view.specs.declared.view.View.{View}
 use Rattle.bit_view.specs.Lying.{HasPart}
@@ -29,16 +30,12 @@ use Rattle.bit_view.specs.InPlace.{read_value, read_fields}
 use Rattle.bit_view.specs.Views.{value_of_view, layout_of_view, LiesAt}
 use Rattle.bit_view.proofs.Places.{Here, here_is, here_told, node_of, Bounds, bounds}
 use Rattle.bit_view.proofs.Ranges.{range_room, item_lies, inner_lies}
-use Rattle.bit_view.proofs.Fields.{fields_in, layout_nth, node_nth, bit_nth, told_nth, struct_told}
-use Rattle.bit_view.proofs.Fields.{field_lies}
+use Rattle.bit_view.specs.Branches.{fields_in, layout_nth, field_tree}
+use Rattle.bit_view.proofs.Fields.{node_nth, bit_nth, told_nth, struct_told, field_lies}
 use Rattle.bit_view.proofs.Fields.{field_child, first_node, first_bit, second_node, second_bit, count_all}
-use Rattle.bit_view.proofs.Offsets.{Found, found, id_is, ChildTold, child_told, formed_part, offset_is}
-use Rattle.bit_view.proofs.Offsets.{bits_before}
+use Rattle.bit_view.proofs.Offsets.{Sought, sought, some_found, none_found, RecordTold, record_told}
+use Rattle.bit_view.proofs.Offsets.{offset_is, bits_before}
 use Rattle.bit_view.proofs.Shapes.{far, far_of, text_n, text_of, holder_range, bytes_at}
-
-described : (l : Layouts) → IsDescribed (layout_of l)
-described l =
-    described_held (layout_of l) (described_is l.version l.relaxed (tree_of l.nodes.items) l.relaxing l.sound)
 
 pub view_node : (w : View) → IsNode w.layouts.now w.node
 view_node w =
@@ -53,12 +50,14 @@ HereAt w u = Here (version_of w.layouts.now.version) (layout_of w.layouts.now).t
 pub view_here : (w : View) (u : Value) → LiesAt w u → HereAt w u
 view_here w u p =
     let l = w.layouts.now in
-    here_is (version_of l.version) (noted_in l) w.content.now w.node w.block w.bit u (described l).layout p
+    let is = (kept_described l).layout in
+    here_is (version_of l.version) (noted_in l) w.content.now w.node w.block w.bit u is p
 
 pub view_bounds : (w : View) → Bounds w.content.now (layout_of_view w) w.block w.bit
 view_bounds w =
     let l = w.layouts.now in
-    bounds (version_of l.version) (noted_in l) w.content.now w.node w.block w.bit (described l).layout w.lies
+    let is = (kept_described l).layout in
+    bounds (version_of l.version) (noted_in l) w.content.now w.node w.block w.bit is w.lies
 
 pub view_room : (w : View) → IsRange (layout_of_view w)
     → let m = layout_of_view w in
@@ -66,6 +65,12 @@ pub view_room : (w : View) → IsRange (layout_of_view w)
     + bytes_for (field w.content.now (w.bit + distance_width m) (count_width m) * item_stride m)
     ≤ length w.content.now
 view_room w r = ∥∥₁_elim w.lies le_prop (λ p. range_room (view_here w p.0 p.1) r)
+
+-- it stands for a value of its layout
+pub view_value : (w : View) → ∥ Of (layout_of_view w) (value_of_view w) ∥₁
+view_value w = ∥∥₁_map w.lies (λ p.
+    let h = view_here w p.0 p.1 in
+    subst (λ u. Of (layout_of_view w) u) (sym (here_told h)) h.stands.placed.of_kind)
 
 -- its number has 64 bits
 pub view_far : (w : View) → far (value_of_view w) < 2 ^ 63
@@ -219,14 +224,21 @@ node_number l n h = omega (arith, part_high h, some_nodes (sub (noted_in l) n))
 pub record ChildHere (w : View) (id : ℤ) (n : ℕ) : Type 0 where
   pub place : ℕ
   pub value : field_of (value_of_view w) id ≡ Some (nth (fields_of (value_of_view w)) place)
+  pub tree : field_tree (fields_in (layout_of_view w)) (id_number id)
+      ≡ Some (layout_nth (fields_in (layout_of_view w)) place)
   pub node : IsNode w.layouts.now n
   pub there : (z : NodeSpec) (b : ℕ) → slice_get (listed w.layouts.now) n ≡ Some z → b ≡ z.offset
       → FieldAt w place n (w.bit + b)
 
+-- no field has the id
+pub record NoneHere (w : View) (id : ℤ) : Type 0 where
+  pub value : field_of (value_of_view w) id ≡ None
+  pub tree : field_tree (fields_in (layout_of_view w)) (id_number id) ≡ None
+
 pub formed : (w : View) → IsFormed (layout_of_view w)
 formed w =
     let l = w.layouts.now in
-    formed_part (version_of l.version) (view_node w) (described l).layout.kind_tree.formed
+    formed_part (part_told (version_of l.version) (view_node w)) (kept_described l).layout.kind_tree.formed
 
 rising_ids : (m : Layout) → IsFormed m → m ≡ Struct (fields_in m) → Rising 0 (ids_of (fields_in m))
 rising_ids (Struct ls) h e = h.0
@@ -243,42 +255,34 @@ child_is (ByteRange t d c) n id e = absurd cc
 child_is (ItemRange g d c l) n id e = absurd cc
 child_is (Optional w l) n id e = absurd cc
 
-pub record FoundHere (w : View) (id : ℤ) : Type 0 where
-  pub shape : ChildTold (layout_of_view w) w.content.now w.block w.bit id
-  pub found : Found (fields_in (layout_of_view w))
-      (read_fields w.content.now (fields_in (layout_of_view w)) w.block w.bit) (suc w.node) id (id_number id)
-
-view_found : (w : View) (id : ℤ) → FitsSigned w16 id → IsSome (field_of (value_of_view w) id) → FoundHere w id
-view_found w id fits some =
-    let bs = w.content.now in
+view_sought : (w : View) (id : ℤ) → FitsSigned w16 id
+    → RecordTold (layout_of_view w) w.content.now w.block w.bit
+    → Sought (fields_in (layout_of_view w))
+    (read_fields w.content.now (fields_in (layout_of_view w)) w.block w.bit) (suc w.node) id (id_number id)
+view_sought w id fits t =
     let m = layout_of_view w in
-    let ls = fields_in m in
-    let t = child_told m bs w.block w.bit id some in
-    let h = subst (λ x. IsSome x) t.same some in
-    let k = id_is bs ls w.block w.bit id fits (rising_ids m (formed w) t.is) h in
-    record { shape = t; found = found bs ls w.block w.bit (suc w.node) id (id_number id) k h }
+    sought w.content.now (fields_in m) w.block w.bit (suc w.node) id fits (rising_ids m (formed w) t.is)
 
-pub view_some : (w : View) (id : ℤ) (r : Option ℕ) → FitsSigned w16 id
-    → IsSome (field_of (value_of_view w) id)
-    → r ≡ child_of (layout_of_view w) w.node id → IsSome r
-view_some w id r fits some er =
-    let x = view_found w id fits some in
-    subst (λ y. IsSome y) (sym (er ∙ child_is (layout_of_view w) w.node id x.shape.is ∙ x.found.node)) refl
+pub view_none : (w : View) (id : ℤ) (r : Option ℕ) → FitsSigned w16 id → IsRecord (value_of_view w)
+    → r ≡ child_of (layout_of_view w) w.node id → r ≡ None → NoneHere w id
+view_none w id r fits is er en =
+    let m = layout_of_view w in
+    let t = record_told m w.content.now w.block w.bit is in
+    let f = none_found (view_sought w id fits t) (sym (child_is m w.node id t.is) ∙ sym er ∙ en) in
+    record { value = t.same id ∙ f.value; tree = f.tree }
 
-pub view_child : (w : View) (id : ℤ) (r : Option ℕ) (n : ℕ) → FitsSigned w16 id
-    → IsSome (field_of (value_of_view w) id) → r ≡ child_of (layout_of_view w) w.node id → r ≡ Some n
-    → ChildHere w id n
-view_child w id r n fits some er en =
+pub view_child : (w : View) (id : ℤ) (r : Option ℕ) (n : ℕ) → FitsSigned w16 id → IsRecord (value_of_view w)
+    → r ≡ child_of (layout_of_view w) w.node id → r ≡ Some n → ChildHere w id n
+view_child w id r n fits is er en =
     let l = w.layouts.now in
     let v = version_of l.version in
     let bs = w.content.now in
     let m = layout_of_view w in
     let ls = fields_in m in
-    let x = view_found w id fits some in
-    let t = x.shape in
-    let f = x.found in
-    let at : Some (node_nth ls (suc w.node) f.place) ≡ Some n = sym f.node
-    ∙ sym (child_is m w.node id t.is) ∙ sym er ∙ en in
+    let t = record_told m bs w.block w.bit is in
+    let found : field_node ls (suc w.node) id ≡ Some n = sym (child_is m w.node id t.is) ∙ sym er ∙ en in
+    let f = some_found (view_sought w id fits t) n found in
+    let at : Some (node_nth ls (suc w.node) f.place) ≡ Some n = sym f.node ∙ found in
     let same : node_nth ls (suc w.node) f.place ≡ n = cc in
     let inside : f.place < count (fields_of (value_of_view w)) = subst (λ x. f.place < x)
     (sym (ap count t.values ∙ count_all bs ls w.block w.bit)) f.inside in
@@ -286,7 +290,8 @@ view_child w id r n fits some er en =
     let moved = subst (λ x. FieldAt w f.place x (bit_nth ls w.bit f.place)) same field in
     record {
       place = f.place;
-      value = t.same ∙ f.value ∙ ap (λ vs. Some (nth vs f.place)) (sym t.values);
+      value = t.same id ∙ f.value ∙ ap (λ vs. Some (nth vs f.place)) (sym t.values);
+      tree = f.tree;
       node = moved.child.node;
       there = λ z b got eb.
           let off = offset_is v l.nodes.items w.node f.place z ls l.listing (view_node w) t.is f.inside

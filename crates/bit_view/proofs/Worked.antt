@@ -1,41 +1,15 @@
 -- The worked content of two numbers.
-use Rattle.std.proofs.Common.{◌≡◌, ◌∷◌, [], List, ℤ, pos, negsuc, false, Option, Some, refl, sym}
+use Rattle.std.proofs.Common.{◌≡◌, ◌∷◌, [], ℤ, pos, negsuc, false, Option, Some, refl, sym}
 use Rattle.std.proofs.Common.{ap, subst, arith}
 use Rattle.frozen_model.specs.Bits.{digits}
 use Rattle.frozen_model.specs.Values.{Value, Of, one, record_of, part, no_part}
-use Rattle.frozen_model.specs.Layouts.{Version1, TwosComplement, Layout, Described, signed_coded, described}
+use Rattle.frozen_model.specs.Layouts.{Version1, Layout, Described, described}
 use Rattle.frozen_model.specs.Holding.{Holds}
-use Rattle.frozen_model.specs.Rows.{num, two_fields, two_numbers}
+use Rattle.frozen_model.specs.Rows.{num, two_numbers}
 use Rattle.frozen_laws.proofs.Holding.{fit_at}
 use Rattle.frozen_laws.specs.Laws.{IsContent}
-use Rattle.layout_tree.specs.declared.node.NodeSpec.{NodeSpec}
-use Rattle.layout_tree.specs.Given.{IsListOf, shown_nodes, noted_from}
+use Rattle.layout_tree.proofs.Worked.{worked}
 use Rattle.typed_tree.specs.Parts.{IsInt}
-
-abbrev pub worked : Layout
-worked = two_fields (TwosComplement 4) (TwosComplement 1)
-
-pub given : (ns : List NodeSpec) → ns ≡ shown_nodes (noted_from worked)
-    → IsListOf (described Version1 false worked) ns (pos 1) false
-given ns e = record {
-  described = record {
-    relaxing = refl;
-    layout = record {
-      root = tt;
-      kind_tree = record {
-        formed = ((omega arith, omega arith, (omega arith, omega arith, tt)), (tt, (tt, tt)));
-        few = omega arith;
-        shallow = omega arith;
-        narrow = (omega arith, (tt, (tt, tt)));
-      };
-      coded = (signed_coded, (signed_coded, tt));
-      legal = (omega arith, (omega arith, tt));
-    };
-  };
-  numbered = refl;
-  relaxes = refl;
-  nodes = e;
-}
 
 holds : Holds worked (two_numbers (pos 5) (negsuc 0))
 unfolding digits

@@ -1,4 +1,5 @@
 -- What a view stands for.
+use Rattle.std.specs.Prelude.{Bool}
 use Rattle.frozen_model.specs.Values.{Value, Absent}
 use Rattle.frozen_model.specs.Layouts.{Layout}
 use Rattle.typed_tree.specs.Parts.{IsFlag, IsInt, IsText, IsBytes, IsList, IsSet, IsMap, IsRecord, IsPresent}
@@ -12,6 +13,10 @@ use Rattle.bit_view.specs.InPlace.{read_value}
 -- the layout of the part
 abbrev pub layout_of_view : View → Layout
 layout_of_view w = at w.layouts.now w.node
+
+-- whether a definition that binds to the layout may have wider whole numbers
+abbrev pub is_relaxed : View → Bool
+is_relaxed w = (layout_of w.layouts.now).relaxed
 
 -- the value that a view stands for
 abbrev pub value_of_view : View → Value

@@ -1,10 +1,13 @@
 //! From a view to views of the parts of its value.
 
-ghost use Rattle.std.specs.Prelude.{◌≡◌, ◌<◌, Some, IsSome};
+ghost use Rattle.std.specs.Prelude.{◌≡◌, ◌<◌, Some, IsSome, IfSome, option_map};
 ghost use Rattle.frozen_model.specs.Values.{Present, count, nth};
-ghost use Rattle.typed_tree.specs.Parts.{IsItems, IsMap, IsPresent, items_of, fields_of, field_of};
+ghost use Rattle.layout_tree.specs.Reading.{item_of};
+ghost use Rattle.typed_tree.specs.Fields.{id_number};
+ghost use Rattle.typed_tree.specs.Parts.{IsItems, IsMap, IsRecord, IsPresent, items_of, fields_of, field_of};
+ghost use Rattle.bit_view.specs.Branches.{inner_of, fields_in, layout_nth, field_tree};
 ghost use Rattle.bit_view.specs.Cursor.{items_left};
-ghost use Rattle.bit_view.specs.Views.{value_of_view};
+ghost use Rattle.bit_view.specs.Views.{value_of_view, layout_of_view, is_relaxed};
 
 use crate::items::Items;
 use crate::view::View;
@@ -14,7 +17,9 @@ impl<'a> View<'a> {
     #[inline]
     pub fn inner(self) -> View<'a>
         requires { IsPresent (value_of_view self) }
-        ensures { value_of_view self.entry ≡ Present (value_of_view result) }
+        ensures value { value_of_view self.entry ≡ Present (value_of_view result) }
+        ensures layout { layout_of_view result ≡ inner_of (layout_of_view self.entry) }
+        ensures relaxed { is_relaxed result ≡ is_relaxed self.entry }
     {
         View {
             content: self.content,
@@ -32,6 +37,8 @@ impl<'a> View<'a> {
         requires inside { i < count (items_of (value_of_view self)) }
         ensures item { value_of_view result ≡ nth (items_of (value_of_view self.entry)) i }
         ensures pair { IsMap (value_of_view self.entry) → count (fields_of (value_of_view result)) ≡ 2 }
+        ensures layout { layout_of_view result ≡ item_of (layout_of_view self.entry) }
+        ensures relaxed { is_relaxed result ≡ is_relaxed self.entry }
     {
         let block = self.own_block();
         View {
@@ -47,7 +54,9 @@ impl<'a> View<'a> {
     #[inline]
     pub fn first(self) -> View<'a>
         requires { 0 < count (fields_of (value_of_view self)) }
-        ensures { value_of_view result ≡ nth (fields_of (value_of_view self.entry)) 0 }
+        ensures value { value_of_view result ≡ nth (fields_of (value_of_view self.entry)) 0 }
+        ensures layout { layout_of_view result ≡ layout_nth (fields_in (layout_of_view self.entry)) 0 }
+        ensures relaxed { is_relaxed result ≡ is_relaxed self.entry }
     {
         View {
             content: self.content,
@@ -62,7 +71,9 @@ impl<'a> View<'a> {
     #[inline]
     pub fn second(self) -> View<'a>
         requires { 1 < count (fields_of (value_of_view self)) }
-        ensures { value_of_view result ≡ nth (fields_of (value_of_view self.entry)) 1 }
+        ensures value { value_of_view result ≡ nth (fields_of (value_of_view self.entry)) 1 }
+        ensures layout { layout_of_view result ≡ layout_nth (fields_in (layout_of_view self.entry)) 1 }
+        ensures relaxed { is_relaxed result ≡ is_relaxed self.entry }
     {
         let first = self.node + 1;
         View {
@@ -74,19 +85,35 @@ impl<'a> View<'a> {
         }
     }
 
-    /// A field of a struct by its id.
+    /// A field of a struct by its id. `None` exactly where the struct has none.
+    pub fn field(self, id: i16) -> Option<View<'a>>
+        requires { IsRecord (value_of_view self) }
+        ensures value { option_map value_of_view result ≡ field_of (value_of_view self.entry) id }
+        ensures layout { option_map layout_of_view result
+            ≡ field_tree (fields_in (layout_of_view self.entry)) (id_number id) }
+        ensures relaxed { IfSome result (λ field. is_relaxed field ≡ is_relaxed self.entry) }
+    {
+        match self.layouts.child(self.node, id) {
+            Some(node) => Some(View {
+                content: self.content,
+                layouts: self.layouts,
+                node,
+                block: self.block,
+                bit: self.bit + u64::from(self.layouts.node(node).offset),
+            }),
+            None => None,
+        }
+    }
+
+    /// A field of a struct by its id, which the struct has.
     pub fn child(self, id: i16) -> View<'a>
         requires { IsSome (field_of (value_of_view self) id) }
-        ensures { field_of (value_of_view self.entry) id ≡ Some (value_of_view result) }
+        ensures value { field_of (value_of_view self.entry) id ≡ Some (value_of_view result) }
+        ensures layout { field_tree (fields_in (layout_of_view self.entry)) (id_number id)
+            ≡ Some (layout_of_view result) }
+        ensures relaxed { is_relaxed result ≡ is_relaxed self.entry }
     {
-        let node = self.layouts.child(self.node, id).unwrap();
-        View {
-            content: self.content,
-            layouts: self.layouts,
-            node,
-            block: self.block,
-            bit: self.bit + u64::from(self.layouts.node(node).offset),
-        }
+        self.field(id).unwrap()
     }
 
     /// The items of a list or a set, or the pairs of a map, in order.

@@ -7,7 +7,7 @@ ghost use Rattle.frozen_laws.specs.Laws.{IsContent};
 ghost use Rattle.layout_tree.specs.Nodes.{layout_of, IsSettled};
 ghost use Rattle.layout_tree.specs.Reading.{plain, kind_at, IsRange, distance_width, count_width};
 ghost use Rattle.typed_tree.specs.Parts.{IsFlag, IsInt, IsText, IsBytes, IsItems, IsPresent, items_of};
-ghost use Rattle.bit_view.specs.Views.{value_of_view, layout_of_view, IsOption, HasForm};
+ghost use Rattle.bit_view.specs.Views.{value_of_view, layout_of_view, is_relaxed, IsOption, HasForm};
 
 use crate::view::View;
 use bit_field::{read_bits, read_signed};
@@ -19,8 +19,10 @@ impl<'a> View<'a> {
     pub fn new(content: &'a [u8], layouts: &'a Layouts) -> View<'a>
         requires settled { ∥ IsSettled layouts.now ∥₁ }
         requires held { ∥ ((v : Value) × IsContent (layout_of layouts.now).tree v content.now) ∥₁ }
-        ensures { (v : Value) → IsContent (layout_of layouts.now).tree v content.now
+        ensures value { (v : Value) → IsContent (layout_of layouts.now).tree v content.now
             → value_of_view result ≡ v }
+        ensures layout { layout_of_view result ≡ (layout_of layouts.now).tree }
+        ensures relaxed { is_relaxed result ≡ (layout_of layouts.now).relaxed }
     {
         layouts_are_described(layouts);
         View {

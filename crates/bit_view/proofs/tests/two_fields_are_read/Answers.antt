@@ -6,14 +6,12 @@ use Rattle.frozen_model.specs.Rows.{two_numbers}
 use Rattle.layout_tree.specs.Nodes.{layout_of}
 use Rattle.typed_tree.specs.Parts.{IsInt, field_of, fields_of}
 use Rattle.bit_view.specs.Views.{value_of_view}
-use Rattle.bit_view.proofs.Worked.{worked, given, content_is, number_found}
+use Rattle.layout_tree.proofs.Worked.{worked, given, lists}
+use Rattle.bit_view.proofs.Worked.{content_is, number_found}
 use Rattle.bit_view.proofs.tests.two_fields_are_read.Goals as goal
 
 pub from_nodes-layouts-requires : goal.from_nodes-layouts-requires
-from_nodes-layouts-requires g c = record {
-  layout = described Version1 false worked;
-  is = given _ (search (rules, c.in_ok-to_vec.ensures.items_if_clones_equal));
-}
+from_nodes-layouts-requires g c = lists _ (search (rules, c.in_ok-to_vec.ensures.items_if_clones_equal))
 
 pub new-whole-requires-clause-held : goal.new-whole-requires-clause-held
 new-whole-requires-clause-held g c =
@@ -25,7 +23,7 @@ pub child-requires : goal.child-requires
 child-requires g c =
     let is = c.from_nodes-layouts.ensures.layout (described Version1 false worked)
     (given _ (search (rules, c.in_ok-to_vec.ensures.items_if_clones_equal))) in
-    let tells = c.new-whole.ensures (two_numbers (pos 5) (negsuc 0)) (content_is
+    let tells = c.new-whole.ensures.value (two_numbers (pos 5) (negsuc 0)) (content_is
     (layout_of c.from_nodes-layouts.result) is) in
     subst (λ v. IsSome (field_of v (pos 1))) (sym tells) refl
 
@@ -33,16 +31,16 @@ pub int-requires : goal.int-requires
 int-requires g c =
     let is = c.from_nodes-layouts.ensures.layout (described Version1 false worked)
     (given _ (search (rules, c.in_ok-to_vec.ensures.items_if_clones_equal))) in
-    let tells = c.new-whole.ensures (two_numbers (pos 5) (negsuc 0)) (content_is
+    let tells = c.new-whole.ensures.value (two_numbers (pos 5) (negsuc 0)) (content_is
     (layout_of c.from_nodes-layouts.result) is) in
     number_found (field_of (value_of_view c.new-whole.result) (pos 1)) (value_of_view c.child.result) (pos 5)
-    c.child.ensures (ap (λ v. field_of v (pos 1)) tells)
+    c.child.ensures.value (ap (λ v. field_of v (pos 1)) tells)
 
 pub child-requires-2 : goal.child-requires-2
 child-requires-2 g c =
     let is = c.from_nodes-layouts.ensures.layout (described Version1 false worked)
     (given _ (search (rules, c.in_ok-to_vec.ensures.items_if_clones_equal))) in
-    let tells = c.new-whole.ensures (two_numbers (pos 5) (negsuc 0)) (content_is
+    let tells = c.new-whole.ensures.value (two_numbers (pos 5) (negsuc 0)) (content_is
     (layout_of c.from_nodes-layouts.result) is) in
     subst (λ v. IsSome (field_of v (pos 2))) (sym tells) refl
 
@@ -50,17 +48,17 @@ pub int-requires-2 : goal.int-requires-2
 int-requires-2 g c =
     let is = c.from_nodes-layouts.ensures.layout (described Version1 false worked)
     (given _ (search (rules, c.in_ok-to_vec.ensures.items_if_clones_equal))) in
-    let tells = c.new-whole.ensures (two_numbers (pos 5) (negsuc 0)) (content_is
+    let tells = c.new-whole.ensures.value (two_numbers (pos 5) (negsuc 0)) (content_is
     (layout_of c.from_nodes-layouts.result) is) in
     number_found (field_of (value_of_view c.new-whole.result) (pos 2)) (value_of_view c.child-2.result)
     (negsuc 0)
-    c.child-2.ensures (ap (λ v. field_of v (pos 2)) tells)
+    c.child-2.ensures.value (ap (λ v. field_of v (pos 2)) tells)
 
 pub second-requires : goal.second-requires
 second-requires g c =
     let is = c.from_nodes-layouts.ensures.layout (described Version1 false worked)
     (given _ (search (rules, c.in_ok-to_vec.ensures.items_if_clones_equal))) in
-    let tells = c.new-whole.ensures (two_numbers (pos 5) (negsuc 0)) (content_is
+    let tells = c.new-whole.ensures.value (two_numbers (pos 5) (negsuc 0)) (content_is
     (layout_of c.from_nodes-layouts.result) is) in
     subst (λ v. 1 < count (fields_of v)) (sym tells) (omega arith)
 
@@ -68,6 +66,6 @@ pub int-requires-3 : goal.int-requires-3
 int-requires-3 g c =
     let is = c.from_nodes-layouts.ensures.layout (described Version1 false worked)
     (given _ (search (rules, c.in_ok-to_vec.ensures.items_if_clones_equal))) in
-    let tells = c.new-whole.ensures (two_numbers (pos 5) (negsuc 0)) (content_is
+    let tells = c.new-whole.ensures.value (two_numbers (pos 5) (negsuc 0)) (content_is
     (layout_of c.from_nodes-layouts.result) is) in
-    subst IsInt (sym (c.second.ensures ∙ ap (λ v. nth (fields_of v) 1) tells)) tt
+    subst IsInt (sym (c.second.ensures.value ∙ ap (λ v. nth (fields_of v) 1) tells)) tt

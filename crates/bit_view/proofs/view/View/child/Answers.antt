@@ -1,57 +1,6 @@
-use Rattle.std.proofs.Common.{arith, rules, ap, sym, ◌∙◌, Some, w16}
-use Rattle.std.specs.Prelude.{FitsSigned}
-use Rattle.std.proofs.lemmas.Int.{to_z-of_z}
-use Rattle.layout_tree.specs.Reading.{child_of}
-use Rattle.bit_view.specs.Views.{layout_of_view}
-use Rattle.bit_view.proofs.Seen.{view_node, view_bounds, view_some, view_child, node_number}
+use Rattle.bit_view.specs.Views.{value_of_view}
+use Rattle.bit_view.proofs.Offsets.{with_field}
 use Rattle.bit_view.proofs.view.View.child.Goals as goal
 
-pub child-requires : goal.child-requires
-child-requires c = let w = c.args.self in node_number w.layouts.now w.node (view_node w)
-
-pub unwrap-node-requires : goal.unwrap-node-requires
-unwrap-node-requires c =
-    let w = c.args.self in
-    let fits : FitsSigned w16 c.args.id = search rules in
-    view_some w c.args.id c.child.result fits c.requires
-    (c.child.ensures.part (view_node w) ∙ ap (child_of (layout_of_view w) w.node)
-    (to_z-of_z w16 c.args.id fits))
-
-pub node-requires : goal.node-requires
-node-requires c =
-    let w = c.args.self in
-    let fits : FitsSigned w16 c.args.id = search rules in
-    let h = view_child w c.args.id c.child.result c.unwrap-node.result fits c.requires
-    (c.child.ensures.part (view_node w) ∙ ap (child_of (layout_of_view w) w.node)
-    (to_z-of_z w16 c.args.id fits))
-    c.unwrap-node.ensures in
-    node_number w.layouts.now c.unwrap-node.result h.node
-
-pub overflow_add-result : goal.overflow_add-result
-overflow_add-result c =
-    let b = view_bounds c.args.self in
-    omega (arith, b.within, b.short, c.from.ensures, c.node.type_inv)
-
-pub invariant_of-result : goal.invariant_of-result
-invariant_of-result c =
-    let w = c.args.self in
-    let fits : FitsSigned w16 c.args.id = search rules in
-    let h = view_child w c.args.id c.child.result c.unwrap-node.result fits c.requires
-    (c.child.ensures.part (view_node w) ∙ ap (child_of (layout_of_view w) w.node)
-    (to_z-of_z w16 c.args.id fits))
-    c.unwrap-node.ensures in
-    record {
-      settled = w.settled;
-      lies =
-          (h.there c.node.result c.from.result c.node.ensures c.from.ensures).lies;
-    }
-
-pub returns : goal.returns
-returns c =
-    let w = c.args.self in
-    let fits : FitsSigned w16 c.args.id = search rules in
-    let h = view_child w c.args.id c.child.result c.unwrap-node.result fits c.requires
-    (c.child.ensures.part (view_node w) ∙ ap (child_of (layout_of_view w) w.node)
-    (to_z-of_z w16 c.args.id fits))
-    c.unwrap-node.ensures in
-    h.value ∙ ap Some (sym (h.there c.node.result c.from.result c.node.ensures c.from.ensures).value)
+pub field-requires : goal.field-requires
+field-requires c = with_field (value_of_view c.args.self) c.args.id c.requires

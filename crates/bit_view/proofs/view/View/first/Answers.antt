@@ -10,5 +10,8 @@ invariant_of-result c =
     let w = c.args.self in
     record { settled = w.settled; lies = (view_first w _ w.bit c.requires refl refl).lies }
 
-pub returns : goal.returns
-returns c = let w = c.args.self in (view_first w _ w.bit c.requires refl refl).value
+pub returns-clause-value : goal.returns-clause-value
+returns-clause-value c = let w = c.args.self in (view_first w _ w.bit c.requires refl refl).value
+
+pub returns-clause-layout : goal.returns-clause-layout
+returns-clause-layout c = let w = c.args.self in (view_first w _ w.bit c.requires refl refl).child.is

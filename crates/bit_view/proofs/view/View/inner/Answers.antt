@@ -6,6 +6,7 @@ use Rattle.layout_tree.specs.Reading.{isset_width}
 use Rattle.layout_tree.proofs.Children.{inner_child}
 use Rattle.bit_view.specs.Lying.{HasPart}
 use Rattle.bit_view.specs.InPlace.{read_value}
+use Rattle.bit_view.specs.Branches.{inner_of}
 use Rattle.bit_view.specs.Views.{layout_of_view}
 use Rattle.bit_view.proofs.Shapes.{present_at}
 use Rattle.bit_view.proofs.Seen.{view_node, view_bounds, view_small, view_inner}
@@ -34,8 +35,8 @@ invariant_of-result c =
           (sym e) (view_inner w p.form p.set);
     }
 
-pub returns : goal.returns
-returns c =
+pub returns-clause-value : goal.returns-clause-value
+returns-clause-value c =
     let w = c.args.self in
     let l = w.layouts.now in
     let m = layout_of_view w in
@@ -46,3 +47,13 @@ returns c =
     p.value
     ∙ ap (λ x. Present (read_value w.content.now x w.block (w.bit + isset_width m))) (sym child.is)
     ∙ ap (λ k. Present (read_value w.content.now (at l (w.node + 2)) w.block (w.bit + k))) (sym e)
+
+pub returns-clause-layout : goal.returns-clause-layout
+returns-clause-layout c =
+    let w = c.args.self in
+    let l = w.layouts.now in
+    let m = layout_of_view w in
+    let p = present_at m w.content.now w.block w.bit c.requires in
+    let child = inner_child (noted_in l) (version_of l.version) w.node (isset_width m) p.inner
+    (view_node w) p.is in
+    child.is ∙ sym (ap inner_of p.is)

@@ -87,3 +87,10 @@ returns-clause-pair c map =
     let child = item_child (noted_in l) (version_of l.version) w.node (view_node w) h in
     ap (λ x. count (fields_of (read_value w.content.now x own bit))) child.is
     ∙ pair_told m w.content.now w.block w.bit own bit (formed w) map
+
+pub returns-clause-layout : goal.returns-clause-layout
+returns-clause-layout c =
+    let w = c.args.self in
+    let l = w.layouts.now in
+    let h = items_holder (layout_of_view w) w.content.now w.block w.bit c.requires.items in
+    (item_child (noted_in l) (version_of l.version) w.node (view_node w) h).is

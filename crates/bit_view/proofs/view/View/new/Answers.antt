@@ -1,8 +1,10 @@
+use Rattle.std.proofs.Common.{ap}
 use Rattle.std.proofs.Math.Logic.{∥∥₁_map}
 use Rattle.frozen_model.specs.Layouts.{stride}
 use Rattle.frozen_model.specs.Packing.{bytes_for, here}
-use Rattle.layout_tree.specs.Listing.{version_of}
+use Rattle.layout_tree.specs.Listing.{version_of, layout_in}
 use Rattle.layout_tree.specs.Nodes.{noted_in, layout_of}
+use Rattle.layout_tree.proofs.Children.{root_sub}
 use Rattle.bit_view.proofs.Places.{here_is, here_told}
 use Rattle.bit_view.proofs.view.View.new.Goals as goal
 
@@ -22,8 +24,8 @@ invariant_of-result c =
       ));
     }
 
-pub returns : goal.returns
-returns c v p =
+pub returns-clause-value : goal.returns-clause-value
+returns-clause-value c v p =
     let l = c.args.layouts.now in
     let d = layout_of l in
     here_told (here_is (version_of l.version) (noted_in l) c.args.content.now 0 0 0 v
@@ -33,3 +35,8 @@ returns c v p =
       content = p;
       lies = (d.tree, bytes_for (stride d.tree), here);
     }))
+
+pub returns-clause-layout : goal.returns-clause-layout
+returns-clause-layout c =
+    let l = c.args.layouts.now in
+    ap (layout_in (version_of l.version)) (root_sub (noted_in l))

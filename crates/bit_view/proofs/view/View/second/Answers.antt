@@ -32,9 +32,16 @@ invariant_of-result c =
           (ap (λ k. w.bit + k) (c.from.ensures ∙ c.bits.ensures.bits))).lies;
     }
 
-pub returns : goal.returns
-returns c =
+pub returns-clause-value : goal.returns-clause-value
+returns-clause-value c =
     let w = c.args.self in
     let first = view_first w (w.node + 1) w.bit (omega (arith, c.requires)) refl refl in
     (view_second w c.past.result (w.bit + c.from.result) c.requires (c.past.ensures.part first.child.node)
     (ap (λ k. w.bit + k) (c.from.ensures ∙ c.bits.ensures.bits))).value
+
+pub returns-clause-layout : goal.returns-clause-layout
+returns-clause-layout c =
+    let w = c.args.self in
+    let first = view_first w (w.node + 1) w.bit (omega (arith, c.requires)) refl refl in
+    (view_second w c.past.result (w.bit + c.from.result) c.requires (c.past.ensures.part first.child.node)
+    (ap (λ k. w.bit + k) (c.from.ensures ∙ c.bits.ensures.bits))).child.is

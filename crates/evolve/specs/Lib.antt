@@ -1,0 +1,11 @@
+pub mod Binding
+pub mod Projection
+pub mod Parts
+pub mod Plans
+pub mod Costs
+pub mod Bound
+pub mod Written
+pub mod Lenses
+pub mod LensItems
+pub mod BindSteps
+pub mod Laws

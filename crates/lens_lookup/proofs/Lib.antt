@@ -1,0 +1,4 @@
+pub mod Finding
+pub mod KeyForms
+pub mod StepForms
+pub mod Reached

@@ -1,0 +1,16 @@
+use Rattle.std.proofs.Common.{true, sym, ap, subst, ◌∙◌}
+use Rattle.idl_parse.specs.Refs.{key_of}
+use Rattle.type_kinds.specs.Accepted.{IsKeyType}
+use Rattle.evolve.specs.Lenses.{value_of_lens}
+use Rattle.lens_lookup.specs.KeySorts.{is_keyed}
+use Rattle.lens_lookup.proofs.KeyForms.{lens_held, held_items, map_keys}
+use Rattle.lens_lookup.proofs.keys.LensKeys.of_map.Goals as goal
+
+pub len-requires : goal.len-requires
+len-requires c =
+    let l = c.args.whole in
+    held_items true (value_of_lens l) (lens_held true l (ap (is_keyed true) c.requires))
+
+pub sort_of-requires : goal.sort_of-requires
+sort_of-requires c =
+    subst IsKeyType (sym (c.key.ensures ∙ ap key_of c.ty.ensures)) (map_keys c.args.whole c.requires)

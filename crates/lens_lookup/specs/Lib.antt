@@ -1,0 +1,5 @@
+pub mod TypedParts
+pub mod Sought
+pub mod SoughtOrder
+pub mod KeySorts
+pub mod LensKeys

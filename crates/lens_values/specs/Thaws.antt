@@ -1,0 +1,11 @@
+-- Why a value of so many cells is not made.
+use Rattle.std.specs.Prelude.{◌≡◌, ℕ, ◌<◌, ◌≤◌}
+use Rattle.frozen_model.specs.Values.{cell_limit}
+use Rattle.typed_tree.specs.Sizes.{capped}
+use Rattle.lens_values.specs.declared.fault.ThawFault.{ThawFault}
+use Rattle.lens_values.specs.declared.fault.ThawFault.TheVariants.{TooManyCells, NoMemory}
+
+-- the fault of cells comes exactly where they pass the limit
+abbrev pub IsThawFault : ℕ → ThawFault → Type 0
+IsThawFault cells (TooManyCells told) = (cell_limit < cells) × (told ≡ capped cells)
+IsThawFault cells NoMemory = cells ≤ cell_limit

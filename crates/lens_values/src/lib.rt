@@ -1,0 +1,13 @@
+//! Whole values of lenses: how many cells a part of a file has under a definition, and the part as a tree.
+#![tactic(auto)]
+
+mod cells;
+mod fault;
+mod flat;
+mod joining;
+mod putting;
+mod thawing;
+
+pub use cells::lens_cells;
+pub use fault::ThawFault;
+pub use thawing::thaw;

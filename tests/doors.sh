@@ -70,6 +70,7 @@ printf '\025\012\025\001\000' >v
 printf 'struct P {\n  1: i32 x;\n  2: i32 y;\n}\n' >printed
 printf -- '-1\n' >y
 printf '5\n' >x
+printf '{"x":5,"y":-1}\n' >whole
 printf 'nothing' >print
 cp print get
 cp print freeze
@@ -145,7 +146,7 @@ cases() {
     run print -d
     check 'a name with a minus' 0 printed ''
     run get d f ''
-    check 'an empty path' 3 none_at_all 'notyet byte 0'
+    check 'an empty path' 0 whole ''
     run get d f .none
     check 'no such field' 2 none_at_all 'path 2 at 0'
     run

@@ -5,8 +5,9 @@ use Rattle.fz_base.specs.Counts.{MovesOnlyAt}
 use Rattle.fz_base.specs.Files.{Held}
 use Rattle.frozen_cli.specs.declared.refusal.Refusal.{Refusal}
 use Rattle.frozen_cli.specs.declared.refusal.Refusal.TheVariants.{Usage, Missing, Unreadable, TooLarge}
-use Rattle.frozen_cli.specs.declared.refusal.Refusal.TheVariants.{BadDefinition, BadValue, BadFile}
-use Rattle.frozen_cli.specs.declared.refusal.Refusal.TheVariants.{NotYetLine, NotYetByte, NoField}
+use Rattle.frozen_cli.specs.declared.refusal.Refusal.TheVariants.{BadPath, BadDefinition, BadValue, BadFile}
+use Rattle.frozen_cli.specs.declared.refusal.Refusal.TheVariants.{TypeChanged, RequiredAbsent, Absent}
+use Rattle.frozen_cli.specs.declared.refusal.Refusal.TheVariants.{TooManyCells}
 use Rattle.frozen_cli.specs.declared.refusal.Failure.{Failure}
 use Rattle.frozen_cli.specs.declared.refusal.Failure.TheVariants.{Refused, NoMemory}
 use Rattle.frozen_cli.specs.Stages.{HeldStageGives}
@@ -24,9 +25,11 @@ status_small (TooLarge role) = omega arith
 status_small (BadDefinition fault) = omega arith
 status_small (BadValue fault) = omega arith
 status_small (BadFile fault) = omega arith
-status_small (NotYetLine line) = omega arith
-status_small (NotYetByte byte) = omega arith
-status_small (NoField byte) = omega arith
+status_small (BadPath fault) = omega arith
+status_small (TypeChanged ids) = omega arith
+status_small (RequiredAbsent ids) = omega arith
+status_small Absent = omega arith
+status_small (TooManyCells cells) = omega arith
 
 -- a file that is unreadable has status 4
 unreadable_status : (r : Refusal) → IsUnreadable r → status_of r ≡ 4
@@ -37,9 +40,11 @@ unreadable_status (TooLarge role) u = absurd u
 unreadable_status (BadDefinition fault) u = absurd u
 unreadable_status (BadValue fault) u = absurd u
 unreadable_status (BadFile fault) u = absurd u
-unreadable_status (NotYetLine line) u = absurd u
-unreadable_status (NotYetByte byte) u = absurd u
-unreadable_status (NoField byte) u = absurd u
+unreadable_status (BadPath fault) u = absurd u
+unreadable_status (TypeChanged ids) u = absurd u
+unreadable_status (RequiredAbsent ids) u = absurd u
+unreadable_status Absent u = absurd u
+unreadable_status (TooManyCells cells) u = absurd u
 
 -- a file that is missing has status 4
 missing_status : (r : Refusal) → IsMissing r → status_of r ≡ 4
@@ -50,9 +55,11 @@ missing_status (TooLarge role) u = absurd u
 missing_status (BadDefinition fault) u = absurd u
 missing_status (BadValue fault) u = absurd u
 missing_status (BadFile fault) u = absurd u
-missing_status (NotYetLine line) u = absurd u
-missing_status (NotYetByte byte) u = absurd u
-missing_status (NoField byte) u = absurd u
+missing_status (BadPath fault) u = absurd u
+missing_status (TypeChanged ids) u = absurd u
+missing_status (RequiredAbsent ids) u = absurd u
+missing_status Absent u = absurd u
+missing_status (TooManyCells cells) u = absurd u
 
 -- what holds of each map that may be told holds where it is told
 where_told : {P Q : Held → Type 0} → ((h : Held) → P h → Q h) → (held : Option Held) → IfSome held P
@@ -86,9 +93,11 @@ module _ {T : Type 0} (view : T → List ℕ) (words : List (List ℕ)) (files :
   missing_or_unreadable (BadDefinition fault) g m u s e = absurd (omega (arith, s))
   missing_or_unreadable (BadValue fault) g m u s e = absurd (omega (arith, s))
   missing_or_unreadable (BadFile fault) g m u s e = absurd (omega (arith, s))
-  missing_or_unreadable (NotYetLine line) g m u s e = absurd (omega (arith, s))
-  missing_or_unreadable (NotYetByte byte) g m u s e = absurd (omega (arith, s))
-  missing_or_unreadable (NoField byte) g m u s e = absurd (omega (arith, s))
+  missing_or_unreadable (BadPath fault) g m u s e = absurd (omega (arith, s))
+  missing_or_unreadable (TypeChanged ids) g m u s e = absurd (omega (arith, s))
+  missing_or_unreadable (RequiredAbsent ids) g m u s e = absurd (omega (arith, s))
+  missing_or_unreadable Absent g m u s e = absurd (omega (arith, s))
+  missing_or_unreadable (TooManyCells cells) g m u s e = absurd (omega (arith, s))
 
   -- the output is written, or a write fails
   written : (t : T) → HeldStageGives files.held view (CommandGives words) (Ok t) → ReadsFiles files (Ok t)

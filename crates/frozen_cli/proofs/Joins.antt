@@ -31,7 +31,8 @@ gives_then (Some h) view P Q a result p q = gives_then_at view (P h) (Q h) a res
 
 stops_at : {S T A B : Type 0} (view : S → A) (last : T → B) (P : Result A Refusal → Type 0)
     (Q : A → Result B Refusal → Type 0) (e : Failure) (result : Result T Failure)
-    → StageGives {T = S} view P (Err e) → IsErrAnd result (λ f. f ≡ e) → StageGives last (ThenStage P Q) result
+    → StageGives {T = S} view P (Err e) → IsErrAnd result (λ f. f ≡ e)
+    → StageGives last (ThenStage P Q) result
 stops_at view last P Q e (Ok t) p same = absurd same
 stops_at view last P Q (Refused r) (Err f) p same =
     subst (λ g. StageGives last (ThenStage P Q) (Err g)) (sym same) (inl p)

@@ -1,8 +1,7 @@
 pub mod Clauses
+pub mod Dotted
 pub mod Joins
-pub mod FieldLaws
+pub mod Leading
 pub mod Fronts
 pub mod Frozen
-pub mod ThinLayouts
-pub mod ThinRoots
 pub mod Contents

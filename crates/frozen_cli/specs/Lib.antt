@@ -1,7 +1,6 @@
 pub mod Refusal
 pub mod Stages
 pub mod Changes
-pub mod Definition
 pub mod Opened
 pub mod FrozenFile
 pub mod Reply

@@ -1,5 +1,5 @@
 -- Why a command is refused: the exit status and the line of each refusal.
-use Rattle.std.specs.Prelude.{◌⊎◌, ℕ, List, [], ◌∷◌, ◌++◌, codes, ⊤}
+use Rattle.std.specs.Prelude.{◌⊎◌, ℕ, Bool, true, false, List, [], ◌∷◌, ◌++◌, codes, ⊤, string_bytes}
 use Rattle.std.specs.Fmt.{decimal, signed_decimal}
 use Rattle.idl_parse.specs.declared.fault.DefFault.{DefFault}
 use Rattle.idl_parse.specs.declared.fault.DefFault.TheVariants as faults
@@ -11,12 +11,15 @@ use Rattle.layout_schema.specs.declared.fault.SchemaFault.{SchemaFault}
 use Rattle.layout_schema.specs.declared.fault.SchemaFault.TheVariants as schemas
 use Rattle.file_check.specs.declared.fault.OpenFault.{OpenFault}
 use Rattle.file_check.specs.declared.fault.OpenFault.TheVariants as opening
+use Rattle.path_text.specs.declared.fault.PathFault.{PathFault}
+use Rattle.path_text.specs.declared.fault.PathFault.TheVariants as paths
 use Rattle.frozen_cli.specs.declared.refusal.Role.{Role}
 use Rattle.frozen_cli.specs.declared.refusal.Role.TheVariants.{Definition, Value, File}
 use Rattle.frozen_cli.specs.declared.refusal.Refusal.{Refusal}
 use Rattle.frozen_cli.specs.declared.refusal.Refusal.TheVariants.{Usage, Missing, Unreadable, TooLarge}
-use Rattle.frozen_cli.specs.declared.refusal.Refusal.TheVariants.{BadDefinition, BadValue, BadFile}
-use Rattle.frozen_cli.specs.declared.refusal.Refusal.TheVariants.{NotYetLine, NotYetByte, NoField}
+use Rattle.frozen_cli.specs.declared.refusal.Refusal.TheVariants.{BadPath, BadDefinition, BadValue, BadFile}
+use Rattle.frozen_cli.specs.declared.refusal.Refusal.TheVariants.{TypeChanged, RequiredAbsent, Absent}
+use Rattle.frozen_cli.specs.declared.refusal.Refusal.TheVariants.{TooManyCells}
 use Rattle.frozen_cli.specs.declared.refusal.Failure.{Failure}
 use Rattle.frozen_cli.specs.declared.refusal.Failure.TheVariants.{Refused, NoMemory}
 
@@ -86,16 +89,38 @@ open_text opening.TooManyCells = codes "9"
 open_text (opening.OutOfRange bit) = codes "10 bit " ++ decimal bit
 open_text opening.NoMemory = []
 
+-- the number of a path's fault, and the byte where its step begins
+abbrev pub path_text : PathFault → List ℕ
+path_text (paths.PathSyntax place) = codes "1 at " ++ decimal place
+path_text (paths.NoField place) = codes "2 at " ++ decimal place
+path_text (paths.NotAStep place) = codes "3 at " ++ decimal place
+path_text (paths.BadKey place) = codes "4 at " ++ decimal place
+path_text paths.NoMemory = []
+
+-- numbers in decimal digits, with a dot between two; one more where something stands before
+abbrev pub dot_if : Bool → List ℕ
+dot_if false = []
+dot_if true = 46 ∷ []
+
+abbrev pub dotted : Bool → List ℕ → List ℕ
+dotted later [] = []
+dotted later (n ∷ ns) = dot_if later ++ (decimal n ++ dotted true ns)
+
+abbrev pub ids_text : List ℕ → List ℕ
+ids_text ids = dotted false ids
+
 -- the exit status
 abbrev pub status_of : Refusal → ℕ
+status_of Absent = 1
 status_of Usage = 2
-status_of (NoField _) = 2
+status_of (BadPath _) = 2
 status_of (TooLarge _) = 3
 status_of (BadDefinition _) = 3
 status_of (BadValue _) = 3
 status_of (BadFile _) = 3
-status_of (NotYetLine _) = 3
-status_of (NotYetByte _) = 3
+status_of (TypeChanged _) = 3
+status_of (RequiredAbsent _) = 3
+status_of (TooManyCells _) = 3
 status_of (Missing _) = 4
 status_of (Unreadable _) = 4
 
@@ -108,9 +133,11 @@ refusal_text (TooLarge role) = role_name role ++ codes " too large"
 refusal_text (BadDefinition fault) = codes "definition " ++ fault_text fault
 refusal_text (BadValue fault) = codes "value " ++ value_text fault
 refusal_text (BadFile fault) = codes "file " ++ open_text fault
-refusal_text (NotYetLine line) = codes "notyet line " ++ decimal line
-refusal_text (NotYetByte byte) = codes "notyet byte " ++ decimal byte
-refusal_text (NoField byte) = codes "path 2 at " ++ decimal byte
+refusal_text (BadPath fault) = codes "path " ++ path_text fault
+refusal_text (TypeChanged ids) = codes "bind 1 at " ++ string_bytes ids
+refusal_text (RequiredAbsent ids) = codes "bind 2 at " ++ string_bytes ids
+refusal_text Absent = codes "absent"
+refusal_text (TooManyCells cells) = codes "result 1 cells " ++ decimal cells
 
 -- the line on err
 abbrev pub line_of : Refusal → List ℕ
@@ -129,9 +156,11 @@ IsMissing (TooLarge _) = ⊥
 IsMissing (BadDefinition _) = ⊥
 IsMissing (BadValue _) = ⊥
 IsMissing (BadFile _) = ⊥
-IsMissing (NotYetLine _) = ⊥
-IsMissing (NotYetByte _) = ⊥
-IsMissing (NoField _) = ⊥
+IsMissing (BadPath _) = ⊥
+IsMissing (TypeChanged _) = ⊥
+IsMissing (RequiredAbsent _) = ⊥
+IsMissing Absent = ⊥
+IsMissing (TooManyCells _) = ⊥
 
 -- it says that a file is unreadable
 abbrev pub IsUnreadable : Refusal → Type 0
@@ -142,9 +171,11 @@ IsUnreadable (TooLarge _) = ⊥
 IsUnreadable (BadDefinition _) = ⊥
 IsUnreadable (BadValue _) = ⊥
 IsUnreadable (BadFile _) = ⊥
-IsUnreadable (NotYetLine _) = ⊥
-IsUnreadable (NotYetByte _) = ⊥
-IsUnreadable (NoField _) = ⊥
+IsUnreadable (BadPath _) = ⊥
+IsUnreadable (TypeChanged _) = ⊥
+IsUnreadable (RequiredAbsent _) = ⊥
+IsUnreadable Absent = ⊥
+IsUnreadable (TooManyCells _) = ⊥
 
 -- it speaks of reading a file
 abbrev pub IsReading : Refusal → Type 0

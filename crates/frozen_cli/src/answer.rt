@@ -1,29 +1,37 @@
 // What a command answers, stage after stage, before anything is written.
-ghost use Rattle.std.specs.Prelude.{◌≡◌, ◌≤◌, ◌<◌, ◌^◌, IfOk, IsErrAnd, length, map, string_bytes};
+ghost use Rattle.std.specs.Prelude.{◌≡◌, ◌≤◌, ◌<◌, ◌^◌, Ok, IfOk, IsErrAnd, length, map, string_bytes};
 ghost use Rattle.idl_profile.specs.Types.{root_of};
 ghost use Rattle.idl_parse.specs.Parsed.{definition_of};
-ghost use Rattle.frozen_model.specs.Trees.{kinds};
+ghost use Rattle.idl_parse.specs.Refs.{type_of_ref};
 ghost use Rattle.frozen_model.specs.Values.{Of, cells, cell_limit};
+ghost use Rattle.frozen_laws.specs.Laws.{IsContent};
 ghost use Rattle.layout_tree.specs.Nodes.{layout_of};
 ghost use Rattle.type_kinds.specs.KindsOf.{kinds_of};
+ghost use Rattle.type_kinds.specs.Accepted.{HasShortTexts};
 ghost use Rattle.typed_tree.specs.References.{value_of_tree};
-ghost use Rattle.frozen_cli.specs.Definition.{field_count, HasThinRoot, thin_kinds};
-ghost use Rattle.frozen_cli.specs.Opened.{value_held};
+ghost use Rattle.typed_tree.specs.Parts.{IsItems};
+ghost use Rattle.path_text.specs.Views.{path_of};
+ghost use Rattle.evolve.specs.Lenses.{value_of_lens, type_of_lens};
+ghost use Rattle.frozen_cli.specs.Opened.{value_held, file_held};
 ghost use Rattle.frozen_cli.specs.Refusal.{IsRefused, IsReading};
 ghost use Rattle.frozen_cli.specs.Stages.{StageGives, HeldStageGives};
 ghost use Rattle.frozen_cli.specs.Changes.{seen, ReadsFiles};
-ghost use Rattle.frozen_cli.specs.Reply.{DefinitionIn, ThinDefinitionIn, ValueIn, ValueUnder};
-ghost use Rattle.frozen_cli.specs.Reply.{ShowsNamed, PartOf, PartUnder, PartIn};
-ghost use Rattle.frozen_cli.specs.Reply.{FrozenUnder, FreezeGives, GetGives, PrintGives, CommandGives};
+ghost use Rattle.frozen_cli.specs.Reply.{DefinitionIn, ValueIn, FrozenUnder, FreezeGives};
+ghost use Rattle.frozen_cli.specs.Reply.{leads_to, ShowsValue, ShowsAt, ShowsPart, Thaws, Under, OpenedUnder};
+ghost use Rattle.frozen_cli.specs.Reply.{FileUnder, WantedIn, ShowGives, ListingOf, LayoutGives, PrintGives};
+ghost use Rattle.frozen_cli.specs.Reply.{CommandGives};
+ghost use Rattle.frozen_cli.specs.Words.{wanted_in};
 
-use crate::path::field_name;
 use crate::refusal::{Failure, Role};
 use crate::stages::{self, read_role};
-use crate::words::{Command, parse_words};
+use crate::wanted::Want;
+use crate::words::{Command, Showing, parse_words};
+use evolve::{Lens, projection_is_a_value, root_lens};
 use file_check::Opened;
 use fz_base::Files;
+use path_text::Path;
 use std::alloc::Global;
-use thrift_idl::Definition;
+use thrift_idl::{Definition, TypeRef};
 use typed_tree::Tree;
 
 /// The most bytes of a definition text.
@@ -37,27 +45,13 @@ const MAX_FILE: u64 = 1 << 30;
 
 /// The definition in a named file.
 fn definition_in<F: Files>(alloc: Global, files: &mut F, name: &str) -> Result<Definition, Failure>
+    ensures short { IfOk result (λ d. HasShortTexts (root_of (definition_of d))) }
     ensures gives { HeldStageGives (F.held files.old) definition_of
         (λ held. DefinitionIn (held name.now)) result }
     ensures reads { ReadsFiles (seen F.held F.misses F.faults files.old files.new) result }
 {
     let text = read_role(alloc, files, Role::Definition, name, MAX_DEFINITION)?;
     stages::definition(alloc, &text)
-}
-
-/// The definition in a named file, with a root of the form that `get` takes.
-fn thin_definition_in<F: Files>(
-    alloc: Global,
-    files: &mut F,
-    name: &str,
-) -> Result<Definition, Failure>
-    ensures root { IfOk result (λ d. HasThinRoot (definition_of d)) }
-    ensures gives { HeldStageGives (F.held files.old) definition_of
-        (λ held. ThinDefinitionIn (held name.now)) result }
-    ensures reads { ReadsFiles (seen F.held F.misses F.faults files.old files.new) result }
-{
-    let def = definition_in(alloc, files, name)?;
-    stages::thin_root(def)
 }
 
 /// The value in a named file.
@@ -109,96 +103,178 @@ fn freeze<F: Files>(
     frozen_under(alloc, files, value, &def)
 }
 
-/// What the bytes of a frozen file hold, where it is of the kinds of the definition's root.
-fn opened_under<'a>(alloc: Global, def: &Definition, bytes: &'a [u8]) -> Result<Opened<'a>, Failure>
-    requires root { HasThinRoot (definition_of def.now) }
-    requires bytes { length bytes.now < 2 ^ 56 }
-    ensures gives { StageGives value_held (ValueUnder (definition_of def.now) bytes.now) result }
-    ensures thin { IfOk result (λ o.
-        kinds (layout_of o.layouts).tree ≡ thin_kinds (field_count (definition_of def.now))) }
+/// The text of a value within the limit of cells.
+fn shown_value(alloc: Global, showing: Showing, part: Lens<'_>) -> Result<Vec<u8>, Failure>
+    requires { showing ≡ Showing.Items → IsItems (value_of_lens part) }
+    ensures gives { StageGives (λ out. out.items)
+        (ShowsValue showing (type_of_lens part.entry) (value_of_lens part.entry)) result }
     ensures no_file { IsErrAnd result (IsRefused IsReading) → ⊥ }
 {
-    let file = stages::file(alloc, bytes)?;
-    stages::bind(def, file)
+    let part = stages::within(part)?;
+    stages::shown(alloc, showing, part)
 }
 
-/// The text of the field of that name in an opened file, which is of the kinds of the definition's root.
-fn field_in(
+/// The text of the part at a path that leads to a type.
+fn shown_part(
     alloc: Global,
+    showing: Showing,
+    def: &Definition,
+    root: Lens<'_>,
+    path: &Path,
+    ty: TypeRef<'_>,
+) -> Result<Vec<u8>, Failure>
+    requires root { type_of_lens root ≡ root_of (definition_of def.now) }
+    requires leads { leads_to showing (root_of (definition_of def.now)) (path_of path.now)
+        ≡ Ok (type_of_ref ty) }
+    ensures gives { StageGives (λ out. out.items)
+        (ShowsAt showing (definition_of def.now) (path_of path.now) (value_of_lens root.entry)
+        (type_of_ref ty.entry)) result }
+    ensures no_file { IsErrAnd result (IsRefused IsReading) → ⊥ }
+{
+    let part = stages::part(def, root, path)?;
+    shown_value(alloc, showing, part)
+}
+
+/// The text of the part of a value at a path.
+fn shown_at(
+    alloc: Global,
+    showing: Showing,
+    def: &Definition,
+    root: Lens<'_>,
+    path: &Path,
+) -> Result<Vec<u8>, Failure>
+    requires root { type_of_lens root ≡ root_of (definition_of def.now) }
+    ensures gives { StageGives (λ out. out.items)
+        (ShowsPart showing (definition_of def.now) (path_of path.now) (value_of_lens root.entry)) result }
+    ensures no_file { IsErrAnd result (IsRefused IsReading) → ⊥ }
+{
+    let ty = stages::fitted(def, path, showing)?;
+    shown_part(alloc, showing, def, root, path, ty)
+}
+
+/// A value in Compact Protocol, within the limit of cells.
+fn thawed(alloc: Global, ty: TypeRef<'_>, root: Lens<'_>) -> Result<Vec<u8>, Failure>
+    requires typed { type_of_lens root ≡ type_of_ref ty }
+    requires form { Of (kinds_of (type_of_ref ty)) (value_of_lens root) }
+    ensures gives { StageGives (λ out. out.items)
+        (Thaws (type_of_ref ty.entry) (value_of_lens root.entry)) result }
+    ensures no_file { IsErrAnd result (IsRefused IsReading) → ⊥ }
+{
+    let tree = stages::thawed(alloc, ty, root)?;
+    stages::encoded(alloc, ty, &tree)
+}
+
+/// What is wanted of an opened file under a definition.
+fn wanted_opened(
+    alloc: Global,
+    want: Want<'_>,
     def: &Definition,
     opened: &Opened<'_>,
-    name: &str,
 ) -> Result<Vec<u8>, Failure>
-    requires root { HasThinRoot (definition_of def.now) }
-    requires thin { kinds (layout_of opened.now.layouts).tree
-        ≡ thin_kinds (field_count (definition_of def.now)) }
+    requires short { HasShortTexts (root_of (definition_of def.now)) }
+    requires held { IsContent (layout_of opened.now.layouts).tree (value_held opened.now)
+        opened.now.content.now }
     ensures gives { StageGives (λ out. out.items)
-        (ShowsNamed (definition_of def.now) name.now (value_held opened.now)) result }
+        (Under (wanted_in want.entry) (definition_of def.now) (file_held opened.now)) result }
     ensures no_file { IsErrAnd result (IsRefused IsReading) → ⊥ }
 {
-    let id = stages::find_field(def, name)?;
-    stages::show(alloc, opened, id)
+    let plan = stages::bind(alloc, def, opened)?;
+    let root = root_lens(def, opened, &plan);
+    match want {
+        Want::Part(showing, path) => shown_at(alloc, showing, def, root, path),
+        Want::Whole => {
+            projection_is_a_value();
+            thawed(alloc, def.root(), root)
+        }
+        Want::Sizes => stages::checked(alloc, root, opened.content),
+    }
 }
 
-/// The text of the field of that name in the bytes of a frozen file.
-fn part_of(alloc: Global, def: &Definition, bytes: &[u8], name: &str) -> Result<Vec<u8>, Failure>
-    requires root { HasThinRoot (definition_of def.now) }
+/// What is wanted of the bytes of a frozen file under a definition.
+fn wanted_of(
+    alloc: Global,
+    want: Want<'_>,
+    def: &Definition,
+    bytes: &[u8],
+) -> Result<Vec<u8>, Failure>
     requires bytes { length bytes.now < 2 ^ 56 }
+    requires short { HasShortTexts (root_of (definition_of def.now)) }
     ensures gives { StageGives (λ out. out.items)
-        (PartOf (definition_of def.now) name.now bytes.now) result }
+        (OpenedUnder (wanted_in want.entry) (definition_of def.now) bytes.now) result }
     ensures no_file { IsErrAnd result (IsRefused IsReading) → ⊥ }
 {
-    let opened = opened_under(alloc, def, bytes)?;
-    field_in(alloc, def, &opened, name)
+    let opened = stages::file(alloc, bytes)?;
+    wanted_opened(alloc, want, def, &opened)
 }
 
-/// The text of the field of that name in a frozen file.
-fn part_under<F: Files>(
+/// What is wanted of a frozen file under a definition.
+fn wanted_under<F: Files>(
     alloc: Global,
     files: &mut F,
-    file: &str,
+    want: Want<'_>,
     def: &Definition,
-    name: &str,
+    file: &str,
 ) -> Result<Vec<u8>, Failure>
-    requires { HasThinRoot (definition_of def.now) }
+    requires { HasShortTexts (root_of (definition_of def.now)) }
     ensures gives { HeldStageGives (F.held files.old) (λ out. out.items)
-        (λ held. PartUnder held file.now (definition_of def.now) name.now) result }
+        (λ held. FileUnder (wanted_in want.entry) (definition_of def.now) (held file.now)) result }
     ensures reads { ReadsFiles (seen F.held F.misses F.faults files.old files.new) result }
 {
     let bytes = read_role(alloc, files, Role::File, file, MAX_FILE)?;
-    part_of(alloc, def, &bytes, name)
+    wanted_of(alloc, want, def, &bytes)
 }
 
-/// The text of the field of that name in a frozen file, under the definition in a named file.
-fn part_in<F: Files>(
+/// What is wanted of a frozen file under the definition in a named file.
+fn wanted<F: Files>(
     alloc: Global,
     files: &mut F,
+    want: Want<'_>,
     def: &str,
     file: &str,
-    name: &str,
 ) -> Result<Vec<u8>, Failure>
     ensures gives { HeldStageGives (F.held files.old) (λ out. out.items)
-        (λ held. PartIn held def.now file.now name.now) result }
+        (λ held. WantedIn (wanted_in want.entry) held def.now file.now) result }
     ensures reads { ReadsFiles (seen F.held F.misses F.faults files.old files.new) result }
 {
-    let def = thin_definition_in(alloc, files, def)?;
-    part_under(alloc, files, file, &def, name)
+    let def = definition_in(alloc, files, def)?;
+    wanted_under(alloc, files, want, &def, file)
 }
 
-/// The text of the part of a frozen file at a path.
-fn get<F: Files>(
+/// The text of the part of a frozen file at the path that a text is.
+fn show<F: Files>(
     alloc: Global,
     files: &mut F,
+    showing: Showing,
     def: &str,
     file: &str,
     path: &str,
 ) -> Result<Vec<u8>, Failure>
     ensures gives { HeldStageGives (F.held files.old) (λ out. out.items)
-        (λ held. GetGives held def.now file.now path.now) result }
+        (λ held. ShowGives showing held def.now file.now path.now) result }
     ensures reads { ReadsFiles (seen F.held F.misses F.faults files.old files.new) result }
 {
-    let name = field_name(path)?;
-    part_in(alloc, files, def, file, name)
+    let path = stages::path(alloc, path)?;
+    wanted(alloc, files, Want::Part(showing, &path), def, file)
+}
+
+/// The listing of the layout of a frozen file, from the file's bytes.
+fn listing_of(alloc: Global, bytes: &[u8]) -> Result<Vec<u8>, Failure>
+    requires { length bytes.now < 2 ^ 56 }
+    ensures gives { StageGives (λ out. out.items) (ListingOf bytes.now) result }
+    ensures no_file { IsErrAnd result (IsRefused IsReading) → ⊥ }
+{
+    let opened = stages::file(alloc, bytes)?;
+    stages::listed(alloc, &opened)
+}
+
+/// The listing of the layout of a frozen file.
+fn layout<F: Files>(alloc: Global, files: &mut F, file: &str) -> Result<Vec<u8>, Failure>
+    ensures gives { HeldStageGives (F.held files.old) (λ out. out.items)
+        (λ held. LayoutGives held file.now) result }
+    ensures reads { ReadsFiles (seen F.held F.misses F.faults files.old files.new) result }
+{
+    let bytes = read_role(alloc, files, Role::File, file, MAX_FILE)?;
+    listing_of(alloc, &bytes)
 }
 
 /// The text of the definition in a named file.
@@ -219,7 +295,15 @@ pub fn answer<F: Files>(alloc: Global, words: &[String], files: &mut F) -> Resul
 {
     match parse_words(words)? {
         Command::Freeze { def, value } => freeze(alloc, files, def, value),
-        Command::Get { def, file, path } => get(alloc, files, def, file, path),
+        Command::Show {
+            showing,
+            def,
+            file,
+            path,
+        } => show(alloc, files, showing, def, file, path),
+        Command::Thaw { def, file } => wanted(alloc, files, Want::Whole, def, file),
+        Command::Check { def, file } => wanted(alloc, files, Want::Sizes, def, file),
+        Command::Layout { file } => layout(alloc, files, file),
         Command::Print { def } => print_definition(alloc, files, def),
     }
 }

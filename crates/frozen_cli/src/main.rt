@@ -4,11 +4,11 @@
 mod answer;
 mod deliver;
 mod frozen_file;
-mod path;
+mod ids;
 mod refusal;
 mod run;
 mod stages;
-mod thin;
+mod wanted;
 mod words;
 
 use crate::run::start;

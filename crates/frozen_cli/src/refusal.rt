@@ -5,8 +5,10 @@ ghost use Rattle.frozen_cli.specs.declared.refusal.Failure.TheVariants.{NoMemory
 use compact_wire::WireFault;
 use file_check::OpenFault;
 use layout_schema::SchemaFault;
+use path_text::PathFault;
 use std::alloc::{AllocError, AllocFailed, Global};
 use std::fmt;
+use std::string::String;
 use thrift_idl::DefFault;
 use typed_reading::ValueFault;
 
@@ -32,18 +34,24 @@ pub enum Refusal {
     Unreadable(Role),
     /// The file is longer than its limit.
     TooLarge(Role),
+    /// The path has no form, or a step that does not fit the definition; never a want of memory.
+    BadPath(PathFault),
     /// The definition is no definition text; the first fault, never a want of memory.
     BadDefinition(DefFault),
     /// The bytes spell no value of the root's type; why, never a want of memory.
     BadValue(ValueFault),
     /// The bytes are no value's frozen file; the first fault, never a want of memory.
     BadFile(OpenFault),
-    /// The definition has a form that is not built yet; the line, from 1.
-    NotYetLine(u32),
-    /// The bytes have a form that is not built yet; the place, from 0.
-    NotYetByte(u64),
-    /// The path names no field; the byte at which the step begins.
-    NoField(u64),
+    /// The definition's first node that does not bind to the file is of another kind there; the ids on the
+    /// way to it, with dots between them.
+    TypeChanged(String),
+    /// The definition's first node that does not bind to the file is a required field that is not there; the
+    /// ids on the way to it, with dots between them.
+    RequiredAbsent(String),
+    /// The projected value has nothing at the path.
+    Absent,
+    /// The part that is asked for has so many cells, which is more than the limit.
+    TooManyCells(u64),
 }
 
 /// Why a command has no output.
@@ -210,6 +218,27 @@ impl fmt::Display for OpenText<'_> {
     }
 }
 
+/// The number of a path's fault, and the byte where its step begins.
+#[derive(Clone, Copy)]
+struct PathText<'a>(&'a PathFault);
+
+impl fmt::Display for PathText<'_> {
+    ghost use Rattle.std.specs.Prelude.{Some};
+    ghost use Rattle.frozen_cli.specs.Refusal.{path_text};
+
+    ghost output = { λ it. Some (path_text it.0.now) };
+
+    fn fmt<W: fmt::Write>(&self, f: &mut fmt::Formatter<W>) -> fmt::Result {
+        match self.0 {
+            PathFault::PathSyntax(place) => write!(f, "1 at {place}"),
+            PathFault::NoField(place) => write!(f, "2 at {place}"),
+            PathFault::NotAStep(place) => write!(f, "3 at {place}"),
+            PathFault::BadKey(place) => write!(f, "4 at {place}"),
+            PathFault::NoMemory => Ok(()),
+        }
+    }
+}
+
 impl fmt::Display for Refusal {
     ghost use Rattle.std.specs.Prelude.{Some};
     ghost use Rattle.frozen_cli.specs.Refusal.{refusal_text};
@@ -222,12 +251,14 @@ impl fmt::Display for Refusal {
             Refusal::Missing(role) => write!(f, "{role} missing"),
             Refusal::Unreadable(role) => write!(f, "{role} unreadable"),
             Refusal::TooLarge(role) => write!(f, "{role} too large"),
+            Refusal::BadPath(fault) => write!(f, "path {}", PathText(fault)),
             Refusal::BadDefinition(fault) => write!(f, "definition {}", FaultText(*fault)),
             Refusal::BadValue(fault) => write!(f, "value {}", ValueText(fault)),
             Refusal::BadFile(fault) => write!(f, "file {}", OpenText(fault)),
-            Refusal::NotYetLine(line) => write!(f, "notyet line {line}"),
-            Refusal::NotYetByte(byte) => write!(f, "notyet byte {byte}"),
-            Refusal::NoField(byte) => write!(f, "path 2 at {byte}"),
+            Refusal::TypeChanged(ids) => write!(f, "bind 1 at {ids}"),
+            Refusal::RequiredAbsent(ids) => write!(f, "bind 2 at {ids}"),
+            Refusal::Absent => write!(f, "absent"),
+            Refusal::TooManyCells(cells) => write!(f, "result 1 cells {cells}"),
         }
     }
 }
@@ -240,13 +271,15 @@ impl Refusal {
         ensures { result ≡ status_of self.now }
     {
         match self {
-            Refusal::Usage | Refusal::NoField(_) => 2,
+            Refusal::Absent => 1,
+            Refusal::Usage | Refusal::BadPath(_) => 2,
             Refusal::TooLarge(_)
             | Refusal::BadDefinition(_)
             | Refusal::BadValue(_)
             | Refusal::BadFile(_)
-            | Refusal::NotYetLine(_)
-            | Refusal::NotYetByte(_) => 3,
+            | Refusal::TypeChanged(_)
+            | Refusal::RequiredAbsent(_)
+            | Refusal::TooManyCells(_) => 3,
             Refusal::Missing(_) | Refusal::Unreadable(_) => 4,
         }
     }

@@ -1,31 +1,56 @@
 // One function for each stage at which a command may be refused.
-ghost use Rattle.std.specs.Prelude.{◌≡◌, ◌≤◌, ◌<◌, ◌^◌, length, IfOk, IsErrAnd, vec_len};
+ghost use Rattle.std.specs.Prelude.{◌≡◌, ◌≤◌, ◌<◌, ◌^◌, length, Ok, IfOk, IsOk, IfSome, IsErrAnd, vec_len};
+ghost use Rattle.std.specs.Prelude.{option_map};
 ghost use Rattle.frozen_cli.specs.Changes.{seen, ReadsFiles};
 ghost use Rattle.frozen_cli.specs.Stages.{StageGives, HeldStageGives, ReadStage};
 ghost use Rattle.frozen_cli.specs.Refusal.{IsRefused, IsReading};
-ghost use Rattle.frozen_cli.specs.Definition.{field_count, IsIdOf, HasThinRoot, HasNumber, thin_kinds};
-ghost use Rattle.frozen_cli.specs.Opened.{value_held, file_held};
-ghost use Rattle.frozen_cli.specs.Reply.{DefinitionStage, RootStage, ValueStage, FileStage, BindStage};
-ghost use Rattle.frozen_cli.specs.Reply.{FieldStage, Freezes, Shows, Writes};
-ghost use Rattle.frozen_model.specs.Trees.{kinds};
+ghost use Rattle.frozen_cli.specs.Opened.{value_held, file_held, value_under};
+ghost use Rattle.frozen_cli.specs.Reply.{DefinitionStage, ValueStage, FileStage, BindStage, PathStage};
+ghost use Rattle.frozen_cli.specs.Reply.{FitStage, PartStage, CellsStage, Freezes, Writes, check_line};
+ghost use Rattle.frozen_cli.specs.Reply.{shown as shown_text};
 ghost use Rattle.frozen_model.specs.Values.{Of, cells, cell_limit};
+ghost use Rattle.frozen_laws.specs.Laws.{IsContent};
 ghost use Rattle.layout_tree.specs.Nodes.{layout_of};
 ghost use Rattle.type_kinds.specs.KindsOf.{kinds_of};
+ghost use Rattle.type_kinds.specs.Accepted.{HasShortTexts};
 ghost use Rattle.typed_tree.specs.References.{value_of_tree};
+ghost use Rattle.typed_tree.specs.Parts.{IsItems};
 ghost use Rattle.idl_profile.specs.Types.{root_of};
 ghost use Rattle.idl_print.specs.Printed.{printed as printed_text};
 ghost use Rattle.idl_parse.specs.Parsed.{definition_of};
+ghost use Rattle.idl_parse.specs.Refs.{type_of_ref};
+ghost use Rattle.path_text.specs.Views.{path_of};
+ghost use Rattle.path_text.specs.Fitting.{fitted as fitted_to};
+ghost use Rattle.typed_tree.specs.Sizes.{capped};
+ghost use Rattle.compact_wire.specs.Canon.{canon};
+ghost use Rattle.compact_codec.specs.Wire.{wire};
+ghost use Rattle.cli_texts.specs.Listing.{listing};
+ghost use Rattle.evolve.specs.Bound.{IsBound};
+ghost use Rattle.evolve.specs.Parts.{at};
+ghost use Rattle.evolve.specs.Lenses.{value_of_lens, type_of_lens};
 
 use crate::frozen_file::frozen_file;
+use crate::ids::ids_text;
 use crate::refusal::{Failure, Refusal, Role};
-use crate::thin::{has_thin_root, is_thin_layout, number_at};
-use compact_codec::decode;
+use crate::words::Showing;
+use cli_texts::layout_text;
+use compact_codec::{decode, encode};
+use evolve::{BindFault, Lens, Plan, bind as bind_definition};
 use file_check::{OpenFault, Opened, open_frozen};
-use fz_base::{Files, ReadFault, read_whole};
+use fz_base::{Files, ReadFault, Steps, read_whole};
+use json_line::{item_lines, json_line};
+use lens_lookup::lookup;
+use lens_values::{ThawFault, lens_cells, thaw};
+use path_text::{Path, PathFault, fit, fit_scan, parse_path};
 use std::alloc::Global;
-use thrift_idl::{DefFault, Definition, parse, print};
+use std::marker::Brand;
+use std::sync::ledger::{Blank, Ledger};
+use thrift_idl::{DefFault, Definition, TypeRef, parse, print};
 use typed_reading::ValueFault;
 use typed_tree::Tree;
+
+// The most cells of a value that is written.
+const CELL_LIMIT: u64 = 33_554_432;
 
 /// Reads a file of at most `limit` bytes.
 pub fn read_role<F: Files>(
@@ -54,6 +79,7 @@ pub fn read_role<F: Files>(
 pub fn definition(alloc: Global, text: &[u8]) -> Result<Definition, Failure>
     requires { length text.now < 2 ^ 31 }
     ensures gives { StageGives definition_of (DefinitionStage text.now) result }
+    ensures short { IfOk result (λ d. HasShortTexts (root_of (definition_of d))) }
     ensures no_file { IsErrAnd result (IsRefused IsReading) → ⊥ }
 {
     match parse(alloc, text) {
@@ -69,19 +95,6 @@ pub fn printed(alloc: Global, def: &Definition) -> Result<Vec<u8>, Failure>
     ensures no_file { IsErrAnd result (IsRefused IsReading) → ⊥ }
 {
     Ok(print(alloc, def)?.into_bytes())
-}
-
-/// Passes on a definition whose root has the form that `get` takes, and refuses every other.
-pub fn thin_root(def: Definition) -> Result<Definition, Failure>
-    ensures gives { StageGives definition_of (RootStage (definition_of def)) result }
-    ensures root { IfOk result (λ d. HasThinRoot (definition_of d)) }
-    ensures no_file { IsErrAnd result (IsRefused IsReading) → ⊥ }
-{
-    if has_thin_root(&def) {
-        Ok(def)
-    } else {
-        Err(Failure::Refused(Refusal::NotYetLine(1)))
-    }
 }
 
 /// The value of the root's type that the bytes spell in Compact Protocol.
@@ -115,6 +128,8 @@ pub fn freeze_value(alloc: Global, def: &Definition, value: &Tree) -> Result<Vec
 pub fn file(alloc: Global, bytes: &[u8]) -> Result<Opened<'_>, Failure>
     requires { length bytes.now < 2 ^ 56 }
     ensures gives { StageGives file_held (FileStage bytes.now) result }
+    ensures held { IfOk result (λ o.
+        IsContent (layout_of o.layouts).tree (value_held o) o.content.now) }
     ensures no_file { IsErrAnd result (IsRefused IsReading) → ⊥ }
 {
     match open_frozen(alloc, bytes) {
@@ -124,41 +139,160 @@ pub fn file(alloc: Global, bytes: &[u8]) -> Result<Opened<'_>, Failure>
     }
 }
 
-/// Passes on an opened file whose layout is of the kinds of the definition's root, and refuses every other.
-pub fn bind<'a>(def: &Definition, opened: Opened<'a>) -> Result<Opened<'a>, Failure>
-    requires { HasThinRoot (definition_of def.now) }
-    ensures gives { StageGives value_held
-        (BindStage (definition_of def.now) (file_held opened.entry)) result }
-    ensures thin { IfOk result (λ o.
-        kinds (layout_of o.layouts).tree ≡ thin_kinds (field_count (definition_of def.now))) }
+/// The plan of a definition that binds to an opened file. The file's value is then one of the definition's
+/// root.
+pub fn bind(alloc: Global, def: &Definition, opened: &Opened<'_>) -> Result<Plan, Failure>
+    ensures gives { StageGives (λ plan. value_under (definition_of def.now) opened.now)
+        (BindStage (definition_of def.now) (file_held opened.now)) result }
+    ensures bound { IfOk result (λ plan.
+        IsBound (layout_of opened.now.layouts) (root_of (definition_of def.now)) (Ok plan)) }
     ensures no_file { IsErrAnd result (IsRefused IsReading) → ⊥ }
 {
-    if is_thin_layout(&opened.layouts, def.root().field_count()) {
-        Ok(opened)
+    match bind_definition(alloc, def, opened) {
+        Ok(plan) => Ok(plan),
+        Err(BindFault::TypeChanged(ids)) => {
+            Err(Failure::Refused(Refusal::TypeChanged(ids_text(alloc, &ids)?)))
+        }
+        Err(BindFault::RequiredAbsent(ids)) => {
+            Err(Failure::Refused(Refusal::RequiredAbsent(ids_text(alloc, &ids)?)))
+        }
+        Err(BindFault::NoMemory) => Err(Failure::NoMemory),
+    }
+}
+
+/// The path that a text is.
+pub fn path(alloc: Global, text: &str) -> Result<Path, Failure>
+    ensures gives { StageGives path_of (PathStage text.now) result }
+    ensures no_file { IsErrAnd result (IsRefused IsReading) → ⊥ }
+{
+    match parse_path(alloc, text) {
+        Ok(path) => Ok(path),
+        Err(PathFault::NoMemory) => Err(Failure::NoMemory),
+        Err(fault) => Err(Failure::Refused(Refusal::BadPath(fault))),
+    }
+}
+
+/// The type to which a path leads under a definition.
+pub fn fitted<'a>(
+    def: &'a Definition,
+    path: &Path,
+    showing: Showing,
+) -> Result<TypeRef<'a>, Failure>
+    ensures gives { StageGives type_of_ref
+        (FitStage showing (definition_of def.now) (path_of path.now)) result }
+    ensures no_file { IsErrAnd result (IsRefused IsReading) → ⊥ }
+{
+    let answer = match showing {
+        Showing::Whole => fit(def, path),
+        Showing::Items => fit_scan(def, path),
+    };
+    match answer {
+        Ok(ty) => Ok(ty),
+        Err(fault) => Err(Failure::Refused(Refusal::BadPath(fault))),
+    }
+}
+
+// Looks a path up with a counter of its own.
+fn lookup_alone<'a, L: Ledger>(blank: Blank, from: Lens<'a>, path: &Path) -> Option<Lens<'a>>
+    requires name { blank.name ≡ L.name }
+    requires parts { blank.parts ≡ L.parts }
+    requires fits { IsOk (fitted_to (type_of_lens from) (path_of path.now)) }
+    ensures part { option_map value_of_lens result
+        ≡ at (path_of path.now).steps (type_of_lens from.entry) (value_of_lens from.entry) }
+    ensures typed { IfSome result (λ l.
+        fitted_to (type_of_lens from.entry) (path_of path.now) ≡ Ok (type_of_lens l)) }
+{
+    let mut steps = Steps::<L>::new(blank);
+    lookup(from, path, &mut steps)
+}
+
+/// The part of a value at a path that fits its definition.
+pub fn part<'a>(def: &Definition, root: Lens<'a>, path: &Path) -> Result<Lens<'a>, Failure>
+    requires root { type_of_lens root ≡ root_of (definition_of def.now) }
+    requires fits { IsOk (fitted_to (type_of_lens root) (path_of path.now)) }
+    ensures gives { StageGives value_of_lens
+        (PartStage (definition_of def.now) (path_of path.now) (value_of_lens root.entry)) result }
+    ensures typed { IfOk result (λ l.
+        fitted_to (type_of_lens root.entry) (path_of path.now) ≡ Ok (type_of_lens l)) }
+    ensures no_file { IsErrAnd result (IsRefused IsReading) → ⊥ }
+{
+    match lookup_alone::<Brand>(Blank::new(1), root, path) {
+        Some(part) => Ok(part),
+        None => Err(Failure::Refused(Refusal::Absent)),
+    }
+}
+
+/// Passes on a value within the limit of cells, and refuses a greater one.
+pub fn within(part: Lens<'_>) -> Result<Lens<'_>, Failure>
+    ensures gives { StageGives value_of_lens
+        (CellsStage (type_of_lens part.entry) (value_of_lens part.entry)) result }
+    ensures same { IfOk result (λ l. l ≡ part.entry) }
+    ensures no_file { IsErrAnd result (IsRefused IsReading) → ⊥ }
+{
+    let cells = lens_cells(part);
+    if cells > CELL_LIMIT {
+        Err(Failure::Refused(Refusal::TooManyCells(cells)))
     } else {
-        Err(Failure::Refused(Refusal::NotYetByte(0)))
+        Ok(part)
     }
 }
 
-/// The id of the root's field of that name. A name that no field has is refused.
-pub fn find_field(def: &Definition, name: &str) -> Result<i16, Failure>
-    requires { HasThinRoot (definition_of def.now) }
-    ensures gives { StageGives (λ id. id) (FieldStage (definition_of def.now) name.now) result }
-    ensures within { IfOk result (IsIdOf (field_count (definition_of def.now))) }
+/// A value as JSON, on one line or each of its items on its own.
+pub fn shown(alloc: Global, showing: Showing, part: Lens<'_>) -> Result<Vec<u8>, Failure>
+    requires { showing ≡ Showing.Items → IsItems (value_of_lens part) }
+    ensures gives { StageGives (λ out. out.items)
+        (Writes (shown_text showing (type_of_lens part.entry) (value_of_lens part.entry))) result }
     ensures no_file { IsErrAnd result (IsRefused IsReading) → ⊥ }
 {
-    match def.root().field_named(name) {
-        Some(field) => Ok(field.id()),
-        None => Err(Failure::Refused(Refusal::NoField(0))),
+    let text = match showing {
+        Showing::Whole => json_line(alloc, part)?,
+        Showing::Items => item_lines(alloc, part)?,
+    };
+    Ok(text.into_bytes())
+}
+
+/// The tree of a value within the limit of cells.
+pub fn thawed(alloc: Global, ty: TypeRef<'_>, root: Lens<'_>) -> Result<Tree, Failure>
+    requires typed { type_of_lens root ≡ type_of_ref ty }
+    requires form { Of (kinds_of (type_of_ref ty)) (value_of_lens root) }
+    ensures gives { StageGives value_of_tree
+        (CellsStage (type_of_ref ty.entry) (value_of_lens root.entry)) result }
+    ensures form { IfOk result (λ t. Of (kinds_of (type_of_ref ty.entry)) (value_of_tree t)) }
+    ensures no_file { IsErrAnd result (IsRefused IsReading) → ⊥ }
+{
+    match thaw(alloc, root) {
+        Ok(tree) => Ok(tree),
+        Err(ThawFault::TooManyCells(cells)) => Err(Failure::Refused(Refusal::TooManyCells(cells))),
+        Err(ThawFault::NoMemory) => Err(Failure::NoMemory),
     }
 }
 
-/// The text of the number of the field with this id, with a newline.
-pub fn show(alloc: Global, opened: &Opened<'_>, id: i16) -> Result<Vec<u8>, Failure>
-    requires { HasNumber (layout_of opened.now.layouts).tree id }
-    ensures gives { StageGives (λ out. out.items) (Shows (value_held opened.now) id) result }
+/// A value of a type in its canonical spelling.
+pub fn encoded(alloc: Global, ty: TypeRef<'_>, value: &Tree) -> Result<Vec<u8>, Failure>
+    requires { Of (kinds_of (type_of_ref ty)) (value_of_tree value.now) }
+    ensures gives { StageGives (λ out. out.items)
+        (Writes (canon (wire (type_of_ref ty.entry) (value_of_tree value.now)))) result }
     ensures no_file { IsErrAnd result (IsRefused IsReading) → ⊥ }
 {
-    let number = number_at(&opened.layouts, opened.content, id);
-    Ok(format!(in alloc; "{number}\n")?.into_bytes())
+    Ok(encode(alloc, ty, value.top())?)
+}
+
+/// The line with the cells of a value, and the bytes of a content.
+pub fn checked(alloc: Global, root: Lens<'_>, content: &[u8]) -> Result<Vec<u8>, Failure>
+    ensures gives { StageGives (λ out. out.items)
+        (Writes (check_line (capped (cells (kinds_of (type_of_lens root.entry)) (value_of_lens root.entry)))
+        (length content.now))) result }
+    ensures no_file { IsErrAnd result (IsRefused IsReading) → ⊥ }
+{
+    let cells = lens_cells(root);
+    let bytes = content.len();
+    Ok(format!(in alloc; "ok cells={cells} content={bytes}\n")?.into_bytes())
+}
+
+/// The listing of the layout of an opened file.
+pub fn listed(alloc: Global, opened: &Opened<'_>) -> Result<Vec<u8>, Failure>
+    ensures gives { StageGives (λ out. out.items) (Writes (listing (layout_of opened.now.layouts))) result }
+    ensures no_file { IsErrAnd result (IsRefused IsReading) → ⊥ }
+{
+    Ok(layout_text(alloc, &opened.layouts)?.into_bytes())
 }

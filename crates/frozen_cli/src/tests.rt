@@ -152,42 +152,6 @@ fn runs_end_as_they_should(rt: HostRuntime) -> Result<(), Fail> {
         ("freeze def lenient", 0, FILE, ""),
         ("freeze def none", 0, ZEROS, ""),
         ("freeze list items", 0, LIST, ""),
-        ("get def file .x", 0, b"5\n".as_slice(), ""),
-        ("get def file .y", 0, b"-1\n".as_slice(), ""),
-        ("get def first .x", 0, b"5\n".as_slice(), ""),
-        ("get def first .y", 0, b"-1\n".as_slice(), ""),
-        ("get def file .z", 2, b"".as_slice(), "path 2 at 0\n"),
-        ("get def file x", 3, b"".as_slice(), "notyet byte 0\n"),
-        ("get gone gone .", 3, b"".as_slice(), "notyet byte 0\n"),
-        ("get def gone .x", 4, b"".as_slice(), "file missing\n"),
-        ("get def list_file .x", 3, b"".as_slice(), "notyet byte 0\n"),
-        (
-            "get list list_file .x",
-            3,
-            b"".as_slice(),
-            "notyet line 1\n",
-        ),
-        ("get def cut .z", 3, b"".as_slice(), "file 1\n"),
-        ("get def no_schema .x", 3, b"".as_slice(), "file 3\n"),
-        (
-            "get def trailing .x",
-            3,
-            b"".as_slice(),
-            "file 2 schema 1 wire 3 at 64\n",
-        ),
-        (
-            "get def third .x",
-            3,
-            b"".as_slice(),
-            "file 2 schema 3 version 3\n",
-        ),
-        (
-            "get def child .x",
-            3,
-            b"".as_slice(),
-            "file 2 schema 4 layout 1\n",
-        ),
-        ("get def dirty .x", 3, b"".as_slice(), "file 6 bit 5\n"),
         (
             "freeze gone gone",
             4,
@@ -226,6 +190,79 @@ fn runs_end_as_they_should(rt: HostRuntime) -> Result<(), Fail> {
         ("freeze def i16", 3, b"".as_slice(), "value 3 node 1\n"),
         ("freeze def twice", 3, b"".as_slice(), "value 1 node 2\n"),
         ("", 2, b"".as_slice(), "usage: frozen COMMAND WORDS\n"),
+    ];
+    for (line, status, out, err) in rows {
+        let ran = run_line(rt.alloc(), line, NO_FAULTS)?;
+        assert_eq!(rt; ran.status, status, "{line}");
+        assert_eq!(rt; ran.out.bytes(), out, "{line}");
+        assert_eq!(rt; ran.err.bytes(), err.as_bytes(), "{line}");
+    }
+    Ok(())
+}
+
+// The same of the commands that read a frozen file.
+#[test]
+fn files_are_answered_as_they_should(rt: HostRuntime) -> Result<(), Fail> {
+    let rows = [
+        ("get def file .x", 0, b"5\n".as_slice(), ""),
+        ("get def file .y", 0, b"-1\n".as_slice(), ""),
+        ("get def first .x", 0, b"5\n".as_slice(), ""),
+        ("get def first .y", 0, b"-1\n".as_slice(), ""),
+        ("get def file .z", 2, b"".as_slice(), "path 2 at 0\n"),
+        ("get def file x", 2, b"".as_slice(), "path 1 at 0\n"),
+        ("get gone gone .", 2, b"".as_slice(), "path 1 at 0\n"),
+        ("get def gone .x", 4, b"".as_slice(), "file missing\n"),
+        ("get def list_file .x", 3, b"".as_slice(), "bind 1 at 1\n"),
+        (
+            "get list list_file .x",
+            0,
+            b"[1000,1001,1003]\n".as_slice(),
+            "",
+        ),
+        ("get list list_file .x[2]", 0, b"1003\n".as_slice(), ""),
+        ("get list list_file .x[3]", 1, b"".as_slice(), "absent\n"),
+        (
+            "scan list list_file .x",
+            0,
+            b"1000\n1001\n1003\n".as_slice(),
+            "",
+        ),
+        ("scan def file .x", 2, b"".as_slice(), "path 3 at 2\n"),
+        ("get def file .x{1}", 2, b"".as_slice(), "path 3 at 2\n"),
+        ("thaw def file", 0, b"\x15\x0A\x15\x01\0".as_slice(), ""),
+        (
+            "check def file",
+            0,
+            b"ok cells=2 content=1\n".as_slice(),
+            "",
+        ),
+        (
+            "layout first",
+            0,
+            b"0 - - struct 5 0\n1 0 1 i32 4 0\n2 0 2 i32 1 4\n".as_slice(),
+            "",
+        ),
+        ("get def cut .z", 3, b"".as_slice(), "file 1\n"),
+        ("get def no_schema .x", 3, b"".as_slice(), "file 3\n"),
+        (
+            "get def trailing .x",
+            3,
+            b"".as_slice(),
+            "file 2 schema 1 wire 3 at 64\n",
+        ),
+        (
+            "get def third .x",
+            3,
+            b"".as_slice(),
+            "file 2 schema 3 version 3\n",
+        ),
+        (
+            "get def child .x",
+            3,
+            b"".as_slice(),
+            "file 2 schema 4 layout 1\n",
+        ),
+        ("get def dirty .x", 3, b"".as_slice(), "file 6 bit 5\n"),
         (
             "get def file",
             2,
@@ -233,7 +270,7 @@ fn runs_end_as_they_should(rt: HostRuntime) -> Result<(), Fail> {
             "usage: frozen COMMAND WORDS\n",
         ),
         (
-            "thaw def file",
+            "thaw def file .x",
             2,
             b"".as_slice(),
             "usage: frozen COMMAND WORDS\n",

@@ -1,32 +1,43 @@
-use Rattle.std.proofs.Common.{◌≡◌, ◌∙◌, ap, sym, arith, length, true, refl}
-use Rattle.idl_profile.specs.Types.{fields_of}
+use Rattle.std.proofs.Common.{◌≡◌, ◌∙◌, ap, map, nat_abs, refl, subst, Some, Err}
+use Rattle.idl_profile.specs.Types.{root_of}
 use Rattle.idl_parse.specs.Parsed.{definition_of}
-use Rattle.frozen_cli.specs.Definition.{field_count, thin_kinds}
-use Rattle.frozen_cli.proofs.ThinRoots.{root_kinds}
+use Rattle.layout_tree.specs.Nodes.{layout_of}
+use Rattle.evolve.specs.Binding.{bind_fault, type_changed, required_absent}
+use Rattle.evolve.specs.Bound.{IsBound}
+use Rattle.frozen_cli.specs.Refusal.{ids_text}
 use Rattle.frozen_cli.proofs.stages.bind.Goals as goal
 
-pub is_thin_layout-requires : goal.is_thin_layout-requires
-is_thin_layout-requires c =
-    omega (arith, c.requires.most, c.field_count.ensures, ap (λ t. length (fields_of t)) c.root.ensures.tree)
-
-pub returns-then-is_thin_layout-clause-gives : goal.returns-then-is_thin_layout-clause-gives
-returns-then-is_thin_layout-clause-gives c =
-    let d = definition_of c.args.def.now in
-    let count : c.field_count.result ≡ field_count d =
-    c.field_count.ensures ∙ ap (λ t. length (fields_of t)) c.root.ensures.tree in (
-      refl,
-      c.is_thin_layout.ensures.0 c.if-is_thin_layout.true ∙ ap thin_kinds count
-          ∙ sym (root_kinds d c.requires),
+pub returns-in_ok-ids_text-in-Err-TypeChanged-clause-gives :
+    goal.returns-in_ok-ids_text-in-Err-TypeChanged-clause-gives
+returns-in_ok-ids_text-in-Err-TypeChanged-clause-gives c =
+    let l = layout_of c.args.opened.now.layouts in
+    let root = root_of (definition_of c.args.def.now) in
+    let e = c.in-Err-TypeChanged in
+    let ids = e.ids.items in
+    let fault : bind_fault l root ≡ Some (type_changed (map nat_abs ids)) =
+    subst (λ f. IsBound l root (Err f)) e.field-0-is e.ensures in
+    let text = c.in_ok-ids_text-in-Err-TypeChanged in (
+      type_changed (map nat_abs ids),
+      fault,
+      (text.field-0, text.ensures ∙ ap (λ xs. ids_text (map nat_abs xs)) c.deref.ensures.value, refl),
     )
 
-pub returns-clause-gives : goal.returns-clause-gives
-returns-clause-gives c =
-    let d = definition_of c.args.def.now in
-    let count : c.field_count.result ≡ field_count d =
-    c.field_count.ensures ∙ ap (λ t. length (fields_of t)) c.root.ensures.tree in (
-      refl,
-      (λ e.
-          let is : c.is_thin_layout.result ≡ true =
-          c.is_thin_layout.ensures.1 (e ∙ root_kinds d c.requires ∙ ap thin_kinds (sym count)) in
-          cc (c.if-is_thin_layout.false)),
+pub returns-in_ok-ids_text-in-Err-RequiredAbsent-clause-gives :
+    goal.returns-in_ok-ids_text-in-Err-RequiredAbsent-clause-gives
+returns-in_ok-ids_text-in-Err-RequiredAbsent-clause-gives c =
+    let l = layout_of c.args.opened.now.layouts in
+    let root = root_of (definition_of c.args.def.now) in
+    let e = c.in-Err-RequiredAbsent in
+    let ids = e.ids.items in
+    let fault : bind_fault l root ≡ Some (required_absent (map nat_abs ids)) =
+    subst (λ f. IsBound l root (Err f)) e.field-0-is e.ensures in
+    let text = c.in_ok-ids_text-in-Err-RequiredAbsent in (
+      required_absent (map nat_abs ids),
+      fault,
+      (
+        text.field-0,
+        text.ensures ∙ ap (λ xs. ids_text (map nat_abs xs))
+            c.deref-in-Err-RequiredAbsent.ensures.value,
+        refl,
+      ),
     )

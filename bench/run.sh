@@ -55,3 +55,9 @@ for turn in 1 2; do
         done
     done
 done
+
+prepare lookup_bench lookup_twin
+for turn in 1 2; do
+    taskset -c "$last" "$program" time || exit 1
+    taskset -c "$last" "$work/lookup_twin" time || exit 1
+done

@@ -1,0 +1,5 @@
+use Rattle.lookup_bench.specs.Paths.{IsIdPath}
+use Rattle.lookup_bench.proofs.lookups.found.Given as goal
+
+abbrev pub invariant-loop-i : goal.invariant-loop-i
+invariant-loop-i g l = IsIdPath l.path

@@ -1,0 +1,5 @@
+use Rattle.lookup_bench.specs.Paths.{IsIdPath}
+use Rattle.lookup_bench.proofs.print_lookups.Given as goal
+
+abbrev pub invariant-loop : goal.invariant-loop
+invariant-loop l = IsIdPath l.path

@@ -233,7 +233,7 @@ fn files_are_answered_as_they_should(rt: HostRuntime) -> Result<(), Fail> {
         (
             "check def file",
             0,
-            b"ok cells=2 content=1\n".as_slice(),
+            b"ok cells=2 content=0\n".as_slice(),
             "",
         ),
         (

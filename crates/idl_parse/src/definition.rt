@@ -1,5 +1,5 @@
 //! Definitions, and what refers to their types and fields.
-ghost use Rattle.std.specs.Prelude.{◌≡◌, ◌<◌, ◌^◌, true, vec_len, string_bytes};
+ghost use Rattle.std.specs.Prelude.{◌≡◌, ◌<◌, ◌^◌, true, length, vec_len, string_bytes};
 ghost use Rattle.std.specs.List.{list_any, list_all, Contains};
 ghost use Rattle.idl_tokens.specs.Tokens.{tokens};
 ghost use Rattle.idl_profile.specs.DefText.{DefTokens};
@@ -19,6 +19,7 @@ pub struct Definition {
     ghost rooted: { list_any is_struct named.items ≡ true },
     ghost few: { list_all has_few named.items ≡ true },
     ghost counted: { vec_len named < 2 ^ 32 },
+    ghost limited: { length (string_bytes text) < 2 ^ 31 },
     ghost meant: { ∥ DefTokens (tokens (string_bytes text)) (nameds_of (string_bytes text) (types_in types) named.items) ∥₁ },
 }
 

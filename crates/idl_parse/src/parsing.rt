@@ -58,7 +58,8 @@ fn rooted(
     named: Vec<DraftNamed>,
     types: TypeNodes,
 ) -> Result<Definition, DefFault>
-    requires { has_struct_in (nameds_of text.now (types_in types) named.items) ≡ true → DefTokens (tokens text.now) (nameds_of text.now (types_in types) named.items) }
+    requires limited { length text.now < 2 ^ 31 }
+    requires meant { has_struct_in (nameds_of text.now (types_in types) named.items) ≡ true → DefTokens (tokens text.now) (nameds_of text.now (types_in types) named.items) }
     ensures ok { IfOk result (λ d. (definition_of d ≡ definition_in (nameds_of text.now (types_in types) named.items)) × (has_struct_in (nameds_of text.now (types_in types) named.items) ≡ true)) }
     ensures err { IfErr result (λ e. (e ≡ DefFault.NoMemory) ⊎ ((e ≡ DefFault.NoRoot) × (has_struct_in (nameds_of text.now (types_in types) named.items) ≡ false))) }
 {

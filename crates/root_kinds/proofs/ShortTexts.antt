@@ -1,9 +1,11 @@
 -- The texts that are written as defaults are no longer than the text of the definition.
-use Rattle.std.proofs.Common.{◌≡◌, ℕ, zero, suc, ◌<◌, Bool, true, false, ◌==◌, ◌&&◌, ◌||◌, if◌then◌else◌, List, [], ◌∷◌, ◌++◌, length, Option, Some, None, Ok, Err, sym, subst, arith}
-use Rattle.std.specs.Prelude.{ℤ, pos, negsuc, int_le, codes, slice_get}
+use Rattle.std.proofs.Common.{◌≡◌, ℕ, zero, suc, ◌<◌, Bool, true, false, ◌==◌, ◌&&◌, ◌||◌, if◌then◌else◌, List, [], ◌∷◌, ◌++◌, length, Option, Some, None, Ok, Err, refl, sym, subst, arith}
+use Rattle.std.specs.Prelude.{ℤ, pos, negsuc, int_le, codes, slice_get, string_bytes}
 use Rattle.std.specs.List.{fold}
 use Rattle.std.specs.Ordering.{int_eq}
 use Rattle.std.specs.Str.{bytes_eq}
+use Rattle.std.proofs.Math.Logic.{∥∥₁_map}
+use Rattle.std.proofs.lemmas.Str.{IsUtf8-string_bytes}
 use Rattle.idl_grammar.specs.declared.fault.Fault.TheVariants as fault
 use Rattle.idl_tokens.specs.Tokens.{Tok, word, number, literal, mark, finish, bad, Toks, tokens}
 use Rattle.idl_grammar.specs.Grammar.{give, token, next, Spells}
@@ -14,7 +16,8 @@ use Rattle.idl_profile.specs.Types.{TypeTree, root_of}
 use Rattle.idl_profile.specs.Judged.{a_mark, taken, is_mark, has_backslash, new_name, a_field, Start, complete, closed_by, an_int, number_default, literal_default, member_number, enum_members, word_default, bracket_default, brace_default, a_default, Begin, a_namespace, an_include, a_typedef, an_enum, a_struct, a_definition, entry_names}
 use Rattle.idl_profile.specs.Text.{pick, start, default, typed, field, one_field, fields, by_id, struct_body, struct_parts, Parts, Item, with_item, item, definition, whole}
 use Rattle.idl_profile.specs.Measures.{scalar_tree, at, tree, fields as tree_fields, named_tree, trees}
-use Rattle.idl_parse.specs.Parsed.{DefText}
+use Rattle.idl_parse.specs.declared.definition.Definition.{Definition}
+use Rattle.idl_parse.specs.Parsed.{DefText, definition_of, meant_of}
 use Rattle.idl_print.proofs.TextTokens.{Each}
 use Rattle.idl_print.proofs.Proper.{each-append}
 use Rattle.idl_print.proofs.Rising.{each-by_id}
@@ -241,3 +244,8 @@ root_is_short text d h small =
     let scope_short = meant_short (length text) small s (tokens text) h.means.rest h.means.spells (tokens_short (length text) text (omega arith)) in
     let all : Each IsShortNamed h.read = subst (Each IsShortNamed) (sym h.means.means) scope_short in
     subst (λ z. HasShortTexts (root_of z)) (sym h.is) (root_has HasShortTexts (trees h.read) (types.scalar types.flag) (grown_short [] h.read (λ i. tt) all) tt)
+
+-- those in the root of a definition that was read
+pub definition_is_short : (d : Definition) → ∥ HasShortTexts (root_of (definition_of d)) ∥₁
+definition_is_short d = ∥∥₁_map d.meant (λ means. root_is_short (string_bytes d.text) (definition_of d)
+    (record { utf8 = IsUtf8-string_bytes d.text; read = meant_of d; is = refl; means = means }) d.limited)

@@ -16,6 +16,6 @@ returns c =
     read-rooted c.args.text.now (toks c.args.text.now c.in_ok-tokens.tokens.items) (scope_of c.args.text.now c.in_ok-scope.scope) _ c.rooted.result c.utf8.text c.in_ok-tokens.ensures (rw c.deref.ensures.value at h) c.rooted.ensures.ok c.rooted.ensures.err
 
 -- where one of the enums and structs is a struct, the tokens spell them
-pub rooted-requires : goal.rooted-requires
-rooted-requires c =
+pub rooted-requires-clause-meant : goal.rooted-requires-clause-meant
+rooted-requires-clause-meant c =
     let h = c.in_ok-scope.ensures in λ s. read-means c.args.text.now (toks c.args.text.now c.in_ok-tokens.tokens.items) (scope_of c.args.text.now c.in_ok-scope.scope) _ c.in_ok-tokens.ensures (rw c.deref.ensures.value at h) s

@@ -1,4 +1,4 @@
-use Rattle.std.proofs.Common.{inr, ap, sym, subst, ◌∙◌, refl, List, ℕ, true, false}
+use Rattle.std.proofs.Common.{inr, ap, sym, subst, ◌∙◌, ◌<◌, refl, length, List, ℕ, true, false}
 use Rattle.idl_tokens.specs.Tokens.{tokens}
 use Rattle.idl_profile.specs.DefText.{DefTokens}
 use Rattle.idl_fields.specs.View.{types_in, nameds_of}
@@ -22,8 +22,11 @@ returns-clause-ok c =
 pub invariant_of-result-clause-meant : goal.invariant_of-result-clause-meant
 invariant_of-result-clause-meant c =
     let h = c.has_struct.ensures in
-    let means = c.requires (struct-test c.args.text.now (types_in c.args.types) c.args.named.items c.has_struct.result true (rw c.deref.ensures.value at h) c.if-not-has_struct.false) in
+    let means = c.requires.meant (struct-test c.args.text.now (types_in c.args.types) c.args.named.items c.has_struct.result true (rw c.deref.ensures.value at h) c.if-not-has_struct.false) in
     ∣ subst (λ (z : List ℕ). DefTokens (tokens z) (nameds_of z (types_in c.args.types) c.args.named.items)) (sym c.in_ok-text.ensures.ok) means ∣₁
 
 pub invariant_of-result-clause-few : goal.invariant_of-result-clause-few
 invariant_of-result-clause-few c = let h = c.have_few.ensures in sym (rw c.deref-2.ensures.value at h) ∙ c.if-not-have_few.false
+
+pub invariant_of-result-clause-limited : goal.invariant_of-result-clause-limited
+invariant_of-result-clause-limited c = subst (λ (z : List ℕ). length z < 2147483648) (sym c.in_ok-text.ensures.ok) c.requires.limited

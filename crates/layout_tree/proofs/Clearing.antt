@@ -1,6 +1,7 @@
 -- The nodes of a layout, once they are cleared, are those of the blank layout of its kinds.
-use Rattle.std.proofs.Common.{◌≡◌, ℕ, suc, ◌+◌, pos, List, [], ◌∷◌, ◌++◌, map, true, arith, refl, ap, sym}
+use Rattle.std.proofs.Common.{◌≡◌, ℕ, suc, ◌+◌, pos, List, ◌∷◌, ◌++◌, map, true, arith, refl, ap, sym}
 use Rattle.std.proofs.Common.{◌∙◌, subst}
+use Rattle.std.proofs.lemmas.List.{map-append}
 use Rattle.std.proofs.Math.Logic.{∥∥₁_map}
 use Rattle.frozen_model.specs.Trees.{Integer, Flag, I8, I16, I32, I64, Text, Binary, AList, ASet, AMap}
 use Rattle.frozen_model.specs.Trees.{Leaf, ByteRange, ItemRange, Optional, Struct, NoField, Field}
@@ -18,7 +19,7 @@ use Rattle.layout_tree.specs.Segments.{IsStructKind}
 use Rattle.layout_tree.specs.Given.{resting}
 use Rattle.layout_tree.specs.Shapes.{blank, all_blank, cleared, cleared_wide}
 use Rattle.layout_tree.proofs.Decode.{tree_again}
-use Rattle.layout_tree.proofs.Readings.{kinds_nodes}
+use Rattle.layout_tree.proofs.Readings.{kinds_nodes, kinds_nodes_all}
 use Rattle.layout_tree.proofs.Shaped.{Shaped, blank_settled, blank_sound}
 use Rattle.layout_tree.proofs.Shaping.{blank_nodes, all_blank_nodes, blank_inline, all_blank_inline}
 
@@ -33,10 +34,6 @@ mutual
   layouts_kinds : (v : Version) (ls : AllNoted) → kinds_all (layouts_in v ls) ≡ kinds_all ls
   layouts_kinds v NoField = refl
   layouts_kinds v (Field i l ls) = let e = layout_kinds v l in let f = layouts_kinds v ls in cc
-
-cleared_join : (xs ys : List NodeSpec) → map cleared (xs ++ ys) ≡ map cleared xs ++ map cleared ys
-cleared_join [] ys = refl
-cleared_join (x ∷ xs) ys = ap (λ r. cleared x ∷ r) (cleared_join xs ys)
 
 struct_stays : (k : Kind) (w : ℕ) → IsStructKind k → cleared_wide k w ≡ w
 struct_stays kinds.Struct w h = refl
@@ -58,11 +55,7 @@ long : (l : Noted) → nodes (blank (kinds_of l)) ≡ nodes l
 long l = blank_nodes (kinds_of l) ∙ kinds_nodes l
 
 long_all : (ls : AllNoted) → nodes_all (all_blank (kinds_all ls)) ≡ nodes_all ls
-long_all ls = ap (λ n. n) (all_blank_nodes (kinds_all ls)) ∙ all_kinds_nodes ls
-  where
-    all_kinds_nodes : (ls : AllNoted) → nodes_all (kinds_all ls) ≡ nodes_all ls
-    all_kinds_nodes NoField = refl
-    all_kinds_nodes (Field i l ls) = omega (arith, kinds_nodes l, all_kinds_nodes ls)
+long_all ls = all_blank_nodes (kinds_all ls) ∙ kinds_nodes_all ls
 
 mutual
   cleared_nodes : (t : Noted) (sk : Kind) (i p f o : ℕ) → IsStructKind sk
@@ -124,7 +117,7 @@ mutual
       (cleared_nodes l kinds.Struct i p id o tt)
       ∙ ap (λ r. map cleared (nodes_of l kinds.Struct i p id o) ++ r)
       (cleared_fields ls (i + nodes l) p (o + inline l))
-      ∙ sym (cleared_join (nodes_of l kinds.Struct i p id o) (nodes_of_all ls (i + nodes l) p (o + inline l)))
+      ∙ sym (map-append cleared (nodes_of l kinds.Struct i p id o) (nodes_of_all ls (i + nodes l) p (o + inline l)))
 
 -- the cleared nodes of a layout make a layout that may be kept
 pub renewed : (e : FormVersion) (v : Version) (old new : List NodeSpec) → IsListing old

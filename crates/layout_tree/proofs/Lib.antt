@@ -8,6 +8,7 @@ pub mod Children
 pub mod Parents
 pub mod Kin
 pub mod Told
+pub mod Turned
 pub mod Noted
 pub mod Based
 pub mod Raising

@@ -5,6 +5,7 @@ use Rattle.std.proofs.lemmas.Bool.Decides.{nat_tests}
 use Rattle.frozen_model.specs.Trees.{Flag, Integer, I8, I16, I32, I64, Text, Binary, AList, ASet, AMap, Leaf}
 use Rattle.frozen_model.specs.Trees.{ByteRange, ItemRange, Optional, Struct, NoField, Field, nodes}
 use Rattle.frozen_model.specs.Layouts.{Version, Layout, Layouts, width}
+use Rattle.frozen_laws.proofs.Reading.{from_eq}
 use Rattle.layout_tree.specs.declared.node.NodeSpec.{NodeSpec}
 use Rattle.layout_tree.specs.declared.node.Kind.{Kind}
 use Rattle.layout_tree.specs.declared.node.Kind.TheVariants as kinds
@@ -101,30 +102,27 @@ both_true : (a b : Bool) → a && b ≡ true → (a ≡ true) × (b ≡ true)
 both_true true b e = (refl, e)
 both_true false b e = absurd cc
 
-same_width : (m n : ℕ) → nat_eq m n ≡ true → m ≡ n
-same_width m n h = grind (arith, nat_tests)
-
 width_same : (m n : ℕ) → n ≡ m → nat_eq m n ≡ true
 width_same m n h = grind (arith, nat_tests)
 
 mutual
   still_settled : (v : Version) (t : Noted) → still t ≡ true → layout_in v (settled t) ≡ layout_in v t
-  still_settled v (Leaf k c) e = let h = same_width c.bits c.wide
+  still_settled v (Leaf k c) e = let h = from_eq c.bits c.wide
       (both_true (nat_eq c.bits c.wide) true e).0 in ap (λ w. Leaf k (coded v k c.base w)) (sym h)
   still_settled v (ByteRange t d c) e =
       let a = both_true (still_width d) (still_width c && true) e in
       let b = both_true (still_width c) true a.1 in
-      ap (λ w. ByteRange t w c.wide) (sym (same_width d.bits d.wide a.0))
-      ∙ ap (λ w. ByteRange t d.bits w) (sym (same_width c.bits c.wide b.0))
+      ap (λ w. ByteRange t w c.wide) (sym (from_eq d.bits d.wide a.0))
+      ∙ ap (λ w. ByteRange t d.bits w) (sym (from_eq c.bits c.wide b.0))
   still_settled v (ItemRange g d c l) e =
       let a = both_true (still_width d) (still_width c && still l) e in
       let b = both_true (still_width c) (still l) a.1 in
-      ap (λ w. ItemRange g w c.wide (layout_in v (settled l))) (sym (same_width d.bits d.wide a.0))
-      ∙ ap (λ w. ItemRange g d.bits w (layout_in v (settled l))) (sym (same_width c.bits c.wide b.0))
+      ap (λ w. ItemRange g w c.wide (layout_in v (settled l))) (sym (from_eq d.bits d.wide a.0))
+      ∙ ap (λ w. ItemRange g d.bits w (layout_in v (settled l))) (sym (from_eq c.bits c.wide b.0))
       ∙ ap (λ (m : Layout). ItemRange g d.bits c.bits m) (still_settled v l b.1)
   still_settled v (Optional w l) e =
       let a = both_true (still_width w) (still l) e in
-      ap (λ z. Optional z (layout_in v (settled l))) (sym (same_width w.bits w.wide a.0))
+      ap (λ z. Optional z (layout_in v (settled l))) (sym (from_eq w.bits w.wide a.0))
       ∙ ap (λ (m : Layout). Optional w.bits m) (still_settled v l a.1)
   still_settled v (Struct ls) e = ap (λ (m : Layouts). Struct m) (still_settled_all v ls e)
 

@@ -307,7 +307,7 @@ pub record FieldToAdd (t : TypeTree) (old : List NodeSpec) (f p here : ℕ) (cur
   pub next : (ms : List NodeSpec) → Adds cur ms (field_kinds x) here (nat_abs x.id)
       → FieldsToAdd t old f p here ms (i + 1)
 
-dropped : (fs : List DefField) (i : ℕ) (x : DefField) → slice_get fs i ≡ Some x → drop i fs ≡ x
+pub dropped : (fs : List DefField) (i : ℕ) (x : DefField) → slice_get fs i ≡ Some x → drop i fs ≡ x
     ∷ drop (suc i) fs
 dropped [] i x e = absurd cc
 dropped (y ∷ ys) zero x e = let h : y ≡ x = cc in ap (λ z. z ∷ ys) h
@@ -357,7 +357,7 @@ field_add t old f p here cur i x r e =
       });
     }
 
-drop_past : (fs : List DefField) (i : ℕ) → length fs ≤ i → drop i fs ≡ []
+pub drop_past : (fs : List DefField) (i : ℕ) → length fs ≤ i → drop i fs ≡ []
 drop_past [] zero h = refl
 drop_past [] (suc i) h = refl
 drop_past (y ∷ ys) zero h = absurd (omega arith)

@@ -1,10 +1,11 @@
 -- Parts by their number.
 use Rattle.std.proofs.Common.{◌≡◌, ℕ, zero, suc, ◌+◌, ◌-◌, ◌<◌, ◌≤◌, true, false, nat_lt, arith, refl}
 use Rattle.std.proofs.lemmas.Bool.Decides.{nat_tests}
-use Rattle.frozen_model.specs.Trees.{Tree, Trees, Leaf, ByteRange, ItemRange, Optional, Struct, nodes}
+use Rattle.frozen_model.specs.Trees.{Tree, Trees, nodes}
 use Rattle.frozen_model.specs.Trees.{nodes_all, Part, itself, in_item, in_optional, in_struct, PartAll}
 use Rattle.frozen_model.specs.Trees.{in_first, in_later}
 use Rattle.layout_tree.specs.Listing.{sub, sub_all}
+use Rattle.layout_tree.proofs.Place.{some_nodes}
 
 mutual
   pub part_low : {A B : Type 0} {t s : Tree A B} {i n : ℕ} → Part t i s n → i ≤ n
@@ -28,13 +29,6 @@ mutual
       + nodes s ≤ i + nodes_all ts
   part_high_all (in_first p) = omega (arith, part_high p)
   part_high_all (in_later p) = omega (arith, part_high_all p)
-
-some_node : {A B : Type 0} (t : Tree A B) → 1 ≤ nodes t
-some_node (Leaf k c) = omega arith
-some_node (ByteRange t d c) = omega arith
-some_node (ItemRange h d c l) = omega arith
-some_node (Optional w l) = omega arith
-some_node (Struct ls) = omega arith
 
 pub below_test : (m n : ℕ) → m < n → nat_lt m n ≡ true
 below_test m n h = grind (arith, nat_tests)
@@ -61,7 +55,7 @@ mutual
   pub part_sub_all : {A B : Type 0} {ts : Trees A B} {s : Tree A B} {i n : ℕ} → PartAll ts i s n → (k : ℕ) → n
       ≡ i + k → sub_all ts k ≡ s
   part_sub_all (in_first {l = l} {s = s} p) k e =
-      let lt : k < nodes l = omega (arith, part_high p, some_node s) in
+      let lt : k < nodes l = omega (arith, part_high p, some_nodes s) in
       let t = below_test k (nodes l) lt in
       rw t (part_sub p k e)
   part_sub_all (in_later {l = l} {ls = ls} p) k e =

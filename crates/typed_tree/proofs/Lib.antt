@@ -12,3 +12,4 @@ pub mod Typed
 pub mod Written
 pub mod Celled
 pub mod Forms
+pub mod Rest

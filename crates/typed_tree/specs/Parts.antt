@@ -53,6 +53,11 @@ abbrev pub IsPresent : Value → Type 0
 IsPresent (Present v) = Unit {0}
 IsPresent _ = ⊥
 
+-- the bytes of a text or of bytes; no other value has any
+abbrev pub bytes_in : Value → List ℕ
+bytes_in (Bytes bs) = bs
+bytes_in _ = []
+
 -- keys and values by turns, as the pairs of a map
 abbrev pub pairs : List Value → List Value
 pairs (key ∷ value ∷ vs) = pair key value ∷ pairs vs

@@ -10,12 +10,12 @@ use Rattle.frozen_model.specs.Values.{Value, Truth, Number, One, Of, InBits}
 use Rattle.type_kinds.specs.KindsOf.{kinds_of}
 use Rattle.compact_wire.specs.Node as node
 use Rattle.compact_wire.specs.Node.{Node}
-use Rattle.typed_tree.specs.Parts.{items_of, fields_of as values_in}
+use Rattle.typed_tree.specs.Parts.{bytes_in, items_of, fields_of as values_in}
 use Rattle.typed_tree.specs.References.{HasForm}
 use Rattle.typed_tree.specs.Filled.{made_as}
 use Rattle.typed_tree.proofs.Celled.{all_fields}
 use Rattle.typed_reading.specs.Codes.{code}
-use Rattle.compact_codec.specs.Wire.{wire, each, each_pair, map_with, wire_of_fields, flag_in, number_in, bytes_in}
+use Rattle.compact_codec.specs.Wire.{wire, each, each_pair, map_with, wire_of_fields, flag_in, number_in}
 
 -- the wire tree of a value of a type of this kind
 abbrev pub wire_by : TypeKind → TypeTree → Value → Node

@@ -4,7 +4,7 @@ use Rattle.std.specs.Prelude.{ℤ, pos, negsuc, unsigned_abs, zip}
 use Rattle.std.specs.List.{AllByRecursion, AllPairs}
 use Rattle.std.specs.Ordering.{int_eq}
 use Rattle.std.proofs.lemmas.Bool.{or_parts}
-use Rattle.std.proofs.lemmas.Bool.Decides.{Decides-int_eq, nat_tests}
+use Rattle.std.proofs.lemmas.Bool.Decides.{nat_tests}
 use Rattle.std.proofs.lemmas.Int.{ints}
 use Rattle.std.proofs.lemmas.List.Elements.{All-from_recursion}
 use Rattle.std.proofs.lemmas.List.Kept.{AllPairs-cons}
@@ -19,6 +19,7 @@ use Rattle.typed_tree.specs.Filled.{natural_ids, struct_with}
 use Rattle.typed_tree.specs.Sizes.{default_value}
 use Rattle.typed_reading.specs.Faults.{is_among}
 use Rattle.typed_reading.specs.Meaning.{given, under, field_value}
+use Rattle.typed_reading.proofs.FieldLaws.{int_eq_same, int_eq_refl}
 use Rattle.compact_codec.specs.Building.{need_in, standing, ids_of, without, AreFresh, IsKnown, IsFromOne}
 
 abbrev Entry : Type 0
@@ -47,21 +48,15 @@ up_lower : (low high : ℕ) (fs : List DefField) → low ≤ high → Up high fs
 up_lower low high [] le up = tt
 up_lower low high (f ∷ fs) le up = (omega (arith, le, up.0), up.1)
 
-pub int_same : (x y : ℤ) → int_eq x y ≡ true → x ≡ y
-int_same x y e = (Decides-int_eq x y).0 e
-
-pub int_self : (x : ℤ) → int_eq x x ≡ true
-int_self x = (Decides-int_eq x x).1 refl
-
 pub int_other : (x y : ℤ) → (x ≡ y → ⊥) → int_eq x y ≡ false
 int_other x y ne = by (int_eq x y) refl
   where
     by : (b : Bool) → int_eq x y ≡ b → b ≡ false
-    by true p = absurd (ne (int_same x y p))
+    by true p = absurd (ne (int_eq_same x y p))
     by false p = refl
 
 other_flips : (x y : ℤ) → int_eq x y ≡ false → int_eq y x ≡ false
-other_flips x y e = int_other y x (λ p. let q : int_eq x y ≡ true = ap (int_eq x) p ∙ int_self x in (let d : true ≡ false = sym q ∙ e in absurd cc))
+other_flips x y e = int_other y x (λ p. let q : int_eq x y ≡ true = ap (int_eq x) p ∙ int_eq_refl x in (let d : true ≡ false = sym q ∙ e in absurd cc))
 
 above_other : (x y : ℤ) → id_number y < id_number x → int_eq x y ≡ false
 above_other x y lt = int_other x y (λ p. omega (arith, lt, ap id_number p))
@@ -110,7 +105,7 @@ same_behind r rs gone (f ∷ fs) low le up =
 
 known_above : (low : ℕ) (fs : List DefField) (id : ℤ) → Up low fs → IsKnown fs id → low < id_number id
 known_above low [] id up k = absurd k
-known_above low (f ∷ fs) id up (inl e) = omega (arith, up.0, ap id_number (int_same f.id id e))
+known_above low (f ∷ fs) id up (inl e) = omega (arith, up.0, ap id_number (int_eq_same f.id id e))
 known_above low (f ∷ fs) id up (inr k) = let h = known_above (id_number f.id) fs id up.1 k in omega (arith, up.0, h)
 
 inserted : (r : ℤ × Value) (rs : List (ℤ × Value)) (gone : List ℤ) (fs : List DefField) (low : ℕ) → Up low fs → is_among r.0 gone ≡ false → IsKnown fs r.0
@@ -126,10 +121,10 @@ inserted r rs gone (f ∷ fs) low up new k = by (int_eq f.id r.0) refl k (λ lat
 
     here_is : int_eq f.id r.0 ≡ true → put true (is_among f.id gone) ≡ map (entry (r ∷ rs)) (cond (is_among f.id gone) (without gone fs) (f ∷ without gone fs))
     here_is e =
-        let same = int_same f.id r.0 e in
+        let same = int_eq_same f.id r.0 e in
         let not_gone : is_among f.id gone ≡ false = ap (λ (z : ℤ). is_among z gone) same ∙ new in
         let x : Entry = (id_number r.0, given f.need (Some r.1) Absent) in
-        let found : int_eq r.0 f.id ≡ true = ap (int_eq r.0) same ∙ int_self r.0 in
+        let found : int_eq r.0 f.id ≡ true = ap (int_eq r.0) same ∙ int_eq_refl r.0 in
         let this : x ≡ entry (r ∷ rs) f =
         ap (λ (z : ℤ). (id_number z, given f.need (Some r.1) Absent)) (sym same)
         ∙ ap (λ (v : Value). (id_number f.id, v)) (same_given f.need r.1 Absent (default_value f))
@@ -261,7 +256,7 @@ fresh_differ before (i ∷ ids) h =
   where
     others : (js : List ℤ) → AllByRecursion (λ j. is_among j (i ∷ before) ≡ false) js → AllByRecursion (λ j. i ≢ j) js
     others [] g = tt
-    others (j ∷ js) g = (λ e. (let o = (or_parts (int_eq j i) (is_among j before) g.0).0 in let q : int_eq j i ≡ true = ap (int_eq j) e ∙ int_self j in let d : true ≡ false = sym q ∙ o in cc), others js g.1)
+    others (j ∷ js) g = (λ e. (let o = (or_parts (int_eq j i) (is_among j before) g.0).0 in let q : int_eq j i ≡ true = ap (int_eq j) e ∙ int_eq_refl j in let d : true ≡ false = sym q ∙ o in cc), others js g.1)
 
 pub fresh_more : (before ids : List ℤ) (id : ℤ) → AreFresh before ids → is_among id ids ≡ false → is_among id before ≡ false → AreFresh before (ids ++ id ∷ [])
 fresh_more before [] id h e f = (f, tt)

@@ -1,9 +1,7 @@
 -- The parts of a value from a place on: what is written of them, and one part more.
-use Rattle.std.proofs.Common.{◌≡◌, ℕ, zero, suc, ◌+◌, ◌*◌, ◌<◌, List, [], ◌∷◌, ◌++◌, length, Some, refl, sym, ap, ◌∙◌, arith, append_assoc, append-nil}
+use Rattle.std.proofs.Common.{◌≡◌, ℕ, suc, ◌+◌, ◌*◌, ◌<◌, List, [], ◌∷◌, ◌++◌, length, Some, refl, sym, ap, ◌∙◌, arith, append_assoc, append-nil}
 use Rattle.std.specs.List.{slice_get}
 use Rattle.std.specs.Prelude.{ℤ, pos, ◌≢◌}
-use Rattle.std.proofs.lemmas.Option.{slice_get_within, get_or_from_slice_get}
-use Rattle.idl_profile.specs.declared.kinds.Need.{Need}
 use Rattle.idl_profile.specs.declared.kinds.TypeKind.TheVariants as kinds
 use Rattle.idl_profile.specs.Types as types
 use Rattle.idl_profile.specs.Types.{TypeTree, scalar, text, bytes, list_of, set_of, map_of, named, enum_of, struct_of, DefField, field_list, kind_of, flag, i8, i16, i32, i64}
@@ -16,27 +14,11 @@ use Rattle.compact_wire.specs.Writes.{canon_field}
 use Rattle.compact_wire.proofs.WriteSteps.{canon-fields}
 use Rattle.typed_tree.specs.Spots as spots
 use Rattle.typed_tree.specs.Parts.{items_of}
+use Rattle.typed_tree.proofs.Rest.{from, from-next, from-end, fields_from, fields-next, fields-end}
 use Rattle.typed_reading.specs.Codes.{code}
 use Rattle.compact_codec.specs.Wire.{wire, each, each_pair, map_with, with_field, wire_of_fields}
 
 -- ---- items
-
--- the values from a place on
-abbrev pub from : Values → ℕ → Values
-from vs zero = vs
-from NoValue (suc i) = NoValue
-from (And v vs) (suc i) = from vs i
-
-from-next : (vs : Values) (i : ℕ) → i < count vs → from vs i ≡ And (nth vs i) (from vs (suc i))
-from-next NoValue i lt = absurd (omega (arith, lt))
-from-next (And v vs) zero lt = refl
-from-next (And v vs) (suc i) lt = from-next vs i (omega (arith, lt))
-
-from-end : (vs : Values) (i : ℕ) → i ≡ count vs → from vs i ≡ NoValue
-from-end NoValue zero e = refl
-from-end NoValue (suc i) e = refl
-from-end (And v vs) zero e = absurd (omega (arith, e))
-from-end (And v vs) (suc i) e = from-end vs i (omega (arith, e))
 
 -- what the items from a place on are written as
 abbrev pub items_from : (Value → Node) → Values → ℕ → List ℕ
@@ -94,28 +76,6 @@ map-done a b f g vs i old mid start new some all size codes written =
     ∙ append_assoc old (shortest (count vs)) ((16 * a + b) ∷ entries) ∙ ap (λ r. old ++ r) (sym (canon-map a b f g vs some))
 
 -- ---- fields
-
--- the fields from a place on
-abbrev pub fields_from : types.Fields → ℕ → types.Fields
-fields_from fs zero = fs
-fields_from types.no_fields (suc i) = types.no_fields
-fields_from (types.field id w n t d fs) (suc i) = fields_from fs i
-
-abbrev as_field : ℤ → List ℕ → Need → TypeTree → types.Default → DefField
-as_field i w n t d = record { id = i; name = w; need = n; type = t; default = d }
-
-fields-next : (fs : types.Fields) (i : ℕ) (f : DefField) → slice_get (field_list fs) i ≡ Some f → fields_from fs i ≡ types.field f.id f.name f.need f.type f.default (fields_from fs (suc i))
-fields-next types.no_fields i f e = absurd (omega (arith, slice_get_within [] i f e))
-fields-next (types.field id w n t d fs) zero f e =
-    let same : as_field id w n t d ≡ f = get_or_from_slice_get (as_field id w n t d ∷ field_list fs) 0 f f e in
-    ap (λ (g : DefField). types.field g.id g.name g.need g.type g.default fs) same
-fields-next (types.field id w n t d fs) (suc i) f e = fields-next fs i f e
-
-fields-end : (fs : types.Fields) (i : ℕ) → i ≡ length (field_list fs) → fields_from fs i ≡ types.no_fields
-fields-end types.no_fields zero e = refl
-fields-end types.no_fields (suc i) e = refl
-fields-end (types.field id w n t d fs) zero e = absurd (omega (arith, e))
-fields-end (types.field id w n t d fs) (suc i) e = fields-end fs i (omega (arith, e))
 
 -- what the fields from a place on are written as, behind the field of that id
 abbrev pub written_from : ℤ → types.Fields → Values → ℕ → List ℕ

@@ -1,17 +1,17 @@
 -- The wire tree of a value of a type.
-use Rattle.std.specs.Prelude.{ℕ, ℤ, pos, List, [], Bool, false}
+use Rattle.std.specs.Prelude.{ℕ, ℤ, pos, Bool, false}
 use Rattle.idl_profile.specs.declared.kinds.Need.{Need}
 use Rattle.idl_profile.specs.declared.kinds.Need.TheVariants.{Plain, Required, Optional}
 use Rattle.idl_profile.specs.Types as types
 use Rattle.idl_profile.specs.Types.{TypeTree, scalar, text, bytes, list_of, set_of, map_of, named}
 use Rattle.idl_profile.specs.Types.{Named, enum_of, struct_of, Scalar}
-use Rattle.frozen_model.specs.Values.{Value, Truth, Number, One, Bytes, Present, Values, NoValue, And, nth}
+use Rattle.frozen_model.specs.Values.{Value, Truth, Number, One, Present, Values, NoValue, And, nth}
 use Rattle.compact_wire.specs.Node.{Node, flag, i8, i16, i32, i64, binary, list, set, map, structure}
 use Rattle.compact_wire.specs.Node.{Nodes, no_nodes, node, Pairs, no_pairs, pair, Fields, no_fields, field}
-use Rattle.typed_tree.specs.Parts.{items_of, fields_of}
+use Rattle.typed_tree.specs.Parts.{bytes_in, items_of, fields_of}
 use Rattle.typed_reading.specs.Codes.{code}
 
--- what a flag, a number, and a text or bytes hold; no other value holds any
+-- what a flag and a number hold; no other value holds any
 abbrev pub flag_in : Value → Bool
 flag_in (One (Truth b)) = b
 flag_in _ = false
@@ -19,10 +19,6 @@ flag_in _ = false
 abbrev pub number_in : Value → ℤ
 number_in (One (Number z)) = z
 number_in _ = pos 0
-
-abbrev pub bytes_in : Value → List ℕ
-bytes_in (Bytes bs) = bs
-bytes_in _ = []
 
 abbrev pub wire_of_base : Scalar → Value → Node
 wire_of_base types.flag v = flag (flag_in v)

@@ -28,6 +28,7 @@ use wire_scan::skip_typed;
 
 /// A value of a kind: its tree is put, and the bytes after it are told.
 #[cycle(build)]
+#[inline(always)]
 pub fn build_value<'a>(
     ty: TypeRef<'_>,
     levels: u32,
@@ -220,6 +221,7 @@ fn build_pairs<'a>(
 
 /// The value of a field: a flag stands in the code, and anything else follows the header.
 #[cycle(build)]
+#[inline(always)]
 fn build_typed<'a>(
     ty: TypeRef<'_>,
     levels: u32,
@@ -249,6 +251,7 @@ fn build_typed<'a>(
 
 /// The field at a place of a struct's type, if it is known; its id is added, and it is marked above a base.
 #[cycle(build)]
+#[inline(always)]
 fn build_field<'a>(
     ty: TypeRef<'_>,
     place: Option<u32>,

@@ -21,6 +21,7 @@ use typed_reading::is_marked;
 use typed_tree::Builder;
 
 /// The last tree as a field of a struct has it: around an optional one it is put that it is present.
+#[inline]
 pub fn wrap(need: Need, builder: &mut Builder) -> Result<(), AllocError>
     requires { 0 < length (trees builder.old) }
     ensures { (vs : List Value) (v : Value) → trees builder.old ≡ vs ++ v ∷ []

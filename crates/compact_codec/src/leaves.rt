@@ -23,6 +23,7 @@ use typed_reading::read_key;
 use typed_tree::{Builder, TableFault};
 
 /// Puts a flag, a number, or bytes, which of a text's type are a text.
+#[inline(always)]
 fn push_key(ty: TypeRef<'_>, key: Key<'_>, builder: &mut Builder) -> Result<(), AllocError>
     requires { kind_of (type_of_ref ty) ≡ TypeKind.Text → IsText (value_of key) }
     ensures { OnOk result (trees builder.new ≡ trees builder.old ++ value_of key.entry ∷ []) }
@@ -38,6 +39,7 @@ fn push_key(ty: TypeRef<'_>, key: Key<'_>, builder: &mut Builder) -> Result<(), 
 }
 
 /// A value of a kind that is no container.
+#[inline(always)]
 pub fn build_leaf<'a>(
     ty: TypeRef<'_>,
     kind: Kind,
@@ -56,7 +58,11 @@ pub fn build_leaf<'a>(
     Ok(rest)
 }
 
-/// Joins the last trees, keys of one kind that differ, into a set.
+/// Joins the last `n` trees, keys of one kind that differ, into a set.
+///
+/// # Errors
+///
+/// `AllocError` where memory runs out, and nowhere else.
 pub fn join_set(builder: &mut Builder, n: u64) -> Result<(), AllocError>
     requires there { n ≤ length (trees builder.old) }
     requires kind { AreOneKind (last n (trees builder.old)) }
@@ -71,7 +77,11 @@ pub fn join_set(builder: &mut Builder, n: u64) -> Result<(), AllocError>
     }
 }
 
-/// Joins the last trees, keys and values by turns, into a map; the keys are of one kind and differ.
+/// Joins the last `2 * n` trees, keys and values by turns, into a map; the keys are of one kind and differ.
+///
+/// # Errors
+///
+/// `AllocError` where memory runs out, and nowhere else.
 pub fn join_map(builder: &mut Builder, n: u64) -> Result<(), AllocError>
     requires there { 2 * n ≤ length (trees builder.old) }
     requires kind { AreOneKind (map key_of (pairs (last (2 * n) (trees builder.old)))) }

@@ -11,6 +11,7 @@ mod leaves;
 pub use decoding::{build, decode};
 pub use encoding::encode;
 pub use laws::{encoding_decodes, encoding_is_typed};
+pub use leaves::{join_map, join_set};
 
 #[cfg(test)]
 mod tests;

@@ -51,6 +51,7 @@ pub enum FieldHeader {
 
 /// The kind of a type code, where so many levels may still open.
 #[tactic(auto, unfolding(crate::specs::Reads::kind_at))]
+#[inline]
 pub fn kind_at(levels: u32, code: u8) -> Option<Kind>
     ensures { result ≡ kind_for_at levels code }
 {
@@ -60,6 +61,7 @@ pub fn kind_at(levels: u32, code: u8) -> Option<Kind>
 
 /// The header of a list or a set, from its first byte.
 #[tactic(auto, unfolding(crate::specs::Reads::list_header))]
+#[inline]
 pub fn list_header(levels: u32, byte: u8) -> Option<ListHeader>
     ensures { result ≡ list_header_at levels byte }
 {
@@ -77,6 +79,7 @@ pub fn list_header(levels: u32, byte: u8) -> Option<ListHeader>
 
 /// The kinds of a map's keys and values, from their byte.
 #[tactic(auto, unfolding(crate::specs::Reads::map_header))]
+#[inline]
 pub fn map_header(levels: u32, byte: u8) -> Option<PairKinds>
     ensures { result ≡ map_header_at levels byte }
 {
@@ -87,6 +90,7 @@ pub fn map_header(levels: u32, byte: u8) -> Option<PairKinds>
 
 /// What a field's code says, where so many levels may still open.
 #[tactic(auto, unfolding(crate::specs::Reads::field_type))]
+#[inline]
 fn field_type(levels: u32, code: u8) -> Option<FieldType>
     ensures { result ≡ field_type_at levels code }
 {
@@ -99,6 +103,7 @@ fn field_type(levels: u32, code: u8) -> Option<FieldType>
 
 /// The header of a field behind the field of an id, from its first byte.
 #[tactic(auto, unfolding(crate::specs::Reads::field_header))]
+#[inline]
 pub fn field_header(levels: u32, before: i16, byte: u8) -> Option<FieldHeader>
     ensures { result ≡ field_header_at levels before byte }
 {

@@ -14,6 +14,7 @@ use crate::numbers::{read_i16, read_number};
 use exact_reading::Stop;
 
 /// The header byte of a list or a set.
+#[inline]
 pub fn read_list_header(levels: u32, bytes: &[u8]) -> Result<(ListHeader, &[u8]), Stop>
     ensures reads { Meets (λ x. (x.0, x.1.now)) result (one (list_header_at levels) bytes.now) }
     ensures shorter { IfOk result (λ x. length x.1.now < length bytes.now) }
@@ -28,6 +29,7 @@ pub fn read_list_header(levels: u32, bytes: &[u8]) -> Result<(ListHeader, &[u8])
 }
 
 /// How many items there are, by the header byte or the number behind it.
+#[inline]
 pub fn read_count(levels: u32, header: ListHeader, bytes: &[u8]) -> Result<(u64, &[u8]), Stop>
     ensures reads { Meets (λ x. (x.0, x.1.now)) result (count levels header bytes.now) }
     ensures bound { IfOk result (λ x. x.0 < 2 ^ 32) }
@@ -43,6 +45,7 @@ pub fn read_count(levels: u32, header: ListHeader, bytes: &[u8]) -> Result<(u64,
 }
 
 /// The byte with the codes of a map's keys and values.
+#[inline]
 pub fn read_map_header(levels: u32, bytes: &[u8]) -> Result<(PairKinds, &[u8]), Stop>
     ensures reads { Meets (λ x. (x.0, x.1.now)) result (one (map_header_at levels) bytes.now) }
     ensures shorter { IfOk result (λ x. length x.1.now < length bytes.now) }
@@ -57,6 +60,7 @@ pub fn read_map_header(levels: u32, bytes: &[u8]) -> Result<(PairKinds, &[u8]), 
 }
 
 /// The kind of the items.
+#[inline]
 pub fn element_of(header: ListHeader) -> Kind
     ensures { result ≡ element header }
 {
@@ -67,6 +71,7 @@ pub fn element_of(header: ListHeader) -> Kind
 
 /// The id of the next field and what its code says, or the end of the fields.
 #[tactic(auto, unfolding(crate::specs::Reads::field_start))]
+#[inline(always)]
 pub fn read_field_start(
     levels: u32,
     before: FieldBefore,

@@ -22,6 +22,7 @@ pub enum Kind {
 
 /// The kind of a type code.
 #[tactic(auto, unfolding(crate::specs::Codes::kind_of))]
+#[inline]
 pub fn kind_of(code: u8) -> Option<Kind>
     ensures { result ≡ kind_for code }
 {
@@ -42,6 +43,7 @@ pub fn kind_of(code: u8) -> Option<Kind>
 }
 
 /// The type code of a kind.
+#[inline]
 pub fn code_of(kind: Kind) -> u8
     ensures { result ≡ code_for kind }
 {
@@ -61,6 +63,7 @@ pub fn code_of(kind: Kind) -> u8
 }
 
 /// Whether a value of the kind may stand where so many levels may still open.
+#[inline]
 pub fn fits(levels: u32, kind: Kind) -> bool
     ensures { result ≡ fits_at levels kind }
 {

@@ -21,6 +21,7 @@ pub fn zigzag(x: i64) -> u64
 
 /// The signed number that `x` writes.
 #[tactic(auto, unfolding(crate::specs::Number::unzigzag))]
+#[inline]
 pub fn unzigzag(x: u64) -> i64
     ensures { result ≡ unzigzag_of x }
 {
@@ -30,6 +31,7 @@ pub fn unzigzag(x: u64) -> i64
 
 /// The same for a number that writes an `i32`.
 #[tactic(auto, unfolding(crate::specs::Number::unzigzag))]
+#[inline]
 pub fn unzigzag_32(x: u64) -> i32
     requires { x < 2 ^ 32 }
     ensures { result ≡ unzigzag_of x }
@@ -40,6 +42,7 @@ pub fn unzigzag_32(x: u64) -> i32
 
 /// The same for a number that writes an `i16`.
 #[tactic(auto, unfolding(crate::specs::Number::unzigzag))]
+#[inline]
 fn unzigzag_16(x: u64) -> i16
     requires { x < 2 ^ 16 }
     ensures { result ≡ unzigzag_of x }
@@ -78,7 +81,24 @@ fn push_digits(out: &mut Vec<u8>, x: u64) -> Result<(), AllocError>
 }
 
 /// A number up to `greatest` in any spelling of at most `room` bytes after the first, and the bytes after it.
+#[inline(always)]
 pub fn read_number(room: u32, greatest: u64, bytes: &[u8]) -> Result<(u64, &[u8]), Stop>
+    ensures reads { Meets (λ x. (x.0, x.1.now)) result (number room greatest bytes.now) }
+    ensures bound { IfOk result (λ x. x.0 ≤ greatest) }
+    ensures shorter { IfOk result (λ x. length x.1.now < length bytes.now) }
+{
+    let Some((first, rest)) = bytes.split_first() else {
+        return Err(Stop::Ended);
+    };
+    let first = u64::from(*first);
+    if first < 128 && first <= greatest {
+        return Ok((first, rest));
+    }
+    read_digits(room, greatest, bytes)
+}
+
+/// The same, a byte at a time.
+fn read_digits(room: u32, greatest: u64, bytes: &[u8]) -> Result<(u64, &[u8]), Stop>
     ensures reads { Meets (λ x. (x.0, x.1.now)) result (number room greatest bytes.now) }
     ensures bound { IfOk result (λ x. x.0 ≤ greatest) }
     ensures shorter { IfOk result (λ x. length x.1.now < length bytes.now) }
@@ -97,11 +117,12 @@ pub fn read_number(room: u32, greatest: u64, bytes: &[u8]) -> Result<(u64, &[u8]
     if room == 0 || low > greatest {
         return Err(Stop::Refused(bytes.len()));
     }
-    let (high, rest) = read_number(room - 1, (greatest - low) / 128, rest)?;
+    let (high, rest) = read_digits(room - 1, (greatest - low) / 128, rest)?;
     Ok((low + 128 * high, rest))
 }
 
 /// An `i16` in at most 3 bytes.
+#[inline]
 pub fn read_i16(bytes: &[u8]) -> Result<(i16, &[u8]), Stop>
     ensures reads { Meets (λ x. (x.0, x.1.now)) result (signed 2 (2 ^ 16 - 1) bytes.now) }
     ensures shorter { IfOk result (λ x. length x.1.now < length bytes.now) }
@@ -111,6 +132,7 @@ pub fn read_i16(bytes: &[u8]) -> Result<(i16, &[u8]), Stop>
 }
 
 /// An `i32` in at most 5 bytes.
+#[inline]
 pub fn read_i32(bytes: &[u8]) -> Result<(i32, &[u8]), Stop>
     ensures reads { Meets (λ x. (x.0, x.1.now)) result (signed 4 (2 ^ 32 - 1) bytes.now) }
     ensures shorter { IfOk result (λ x. length x.1.now < length bytes.now) }
@@ -120,6 +142,7 @@ pub fn read_i32(bytes: &[u8]) -> Result<(i32, &[u8]), Stop>
 }
 
 /// An `i64` in at most 10 bytes.
+#[inline]
 pub fn read_i64(bytes: &[u8]) -> Result<(i64, &[u8]), Stop>
     ensures reads { Meets (λ x. (x.0, x.1.now)) result (signed 9 (2 ^ 64 - 1) bytes.now) }
     ensures shorter { IfOk result (λ x. length x.1.now < length bytes.now) }

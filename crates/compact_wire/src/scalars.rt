@@ -13,6 +13,7 @@ use std::alloc::Global;
 
 /// The first so many bytes, and the others.
 #[tactic(auto, unfolding(exact_reading::specs::Reading::taken))]
+#[inline(always)]
 pub fn read_taken(count: usize, bytes: &[u8]) -> Result<(&[u8], &[u8]), Stop>
     ensures reads { Meets (λ x. (x.0.now, x.1.now)) result (taken count bytes.now) }
     ensures shorter { IfOk result (λ x. length x.1.now ≤ length bytes.now) }
@@ -25,6 +26,7 @@ pub fn read_taken(count: usize, bytes: &[u8]) -> Result<(&[u8], &[u8]), Stop>
 
 /// The first eight bytes, and the others.
 #[tactic(auto, unfolding(exact_reading::specs::Reading::taken))]
+#[inline]
 pub fn read_eight(bytes: &[u8]) -> Result<([u8; 8], &[u8]), Stop>
     ensures reads { Meets (λ x. (x.0, x.1.now)) result (taken 8 bytes.now) }
     ensures shorter { IfOk result (λ x. length x.1.now < length bytes.now) }

@@ -31,6 +31,7 @@ use wire_scan::{skip_items, skip_pairs, skip_typed, skip_value};
 
 /// A value of a kind read as a type: the progress behind it, and the bytes after it.
 #[cycle(check)]
+#[inline(always)]
 pub fn check_value<'a>(
     alloc: Global,
     ty: TypeRef<'_>,
@@ -248,6 +249,7 @@ fn check_pairs<'a>(
 
 /// The value of a field: a flag stands in the code, and anything else follows the header.
 #[cycle(check)]
+#[inline(always)]
 fn check_typed<'a>(
     alloc: Global,
     ty: TypeRef<'_>,
@@ -278,6 +280,7 @@ fn check_typed<'a>(
 
 /// The value of the field at a place of a struct's type, if it is known. Marks above the base are of those that stood.
 #[cycle(check)]
+#[inline(always)]
 fn check_field<'a>(
     alloc: Global,
     ty: TypeRef<'_>,

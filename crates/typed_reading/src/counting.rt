@@ -30,6 +30,7 @@ use std::alloc::Global;
 use wire_scan::{skip_scalar, skip_typed, skip_value};
 
 /// A value of a kind that is no container, of the type's code.
+#[inline(always)]
 fn count_leaf<'a>(
     ty: TypeRef<'_>,
     kind: Kind,
@@ -55,6 +56,7 @@ fn count_leaf<'a>(
 /// A value of a kind counted as one of a type: the count with it, and the bytes after it. One of another code than the
 /// type's is passed over.
 #[cycle(count)]
+#[inline(always)]
 pub fn count_value<'a>(
     alloc: Global,
     ty: TypeRef<'_>,
@@ -231,6 +233,7 @@ fn count_pairs<'a>(
 
 /// The value of a field: a flag stands in the code, and anything else follows the header.
 #[cycle(count)]
+#[inline(always)]
 fn count_typed<'a>(
     alloc: Global,
     ty: TypeRef<'_>,
@@ -259,6 +262,7 @@ fn count_typed<'a>(
 
 /// The value of the field at a place of a struct's type, if it is known. Marks above the base are of those that stood.
 #[cycle(count)]
+#[inline(always)]
 fn count_field<'a>(
     alloc: Global,
     ty: TypeRef<'_>,

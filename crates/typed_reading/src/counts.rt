@@ -22,6 +22,7 @@ pub struct Checked {
 
 /// A count with another one added.
 #[tactic(auto, using(crate::proofs::Sums::raised_is))]
+#[inline(always)]
 pub fn plus(count: Checked, more: Checked) -> Checked
     ensures { result ≡ grown count more }
 {
@@ -35,6 +36,7 @@ pub fn plus(count: Checked, more: Checked) -> Checked
 }
 
 /// With a flag or number, or with what makes a value a present one.
+#[inline(always)]
 pub fn with_scalar(count: Checked) -> Checked
     ensures { result ≡ grown count a_scalar }
 {
@@ -42,12 +44,14 @@ pub fn with_scalar(count: Checked) -> Checked
 }
 
 /// Nothing counted yet.
+#[inline]
 pub fn nothing() -> Checked
     ensures { result ≡ count_of 0 0 0 }
 {
     counts(0, 0, 0)
 }
 
+#[inline(always)]
 fn counts(cells: u64, nodes: u64, bytes: u64) -> Checked
     ensures { result ≡ count_of cells nodes bytes }
 {
@@ -58,6 +62,7 @@ fn counts(cells: u64, nodes: u64, bytes: u64) -> Checked
 }
 
 /// With a text, or bytes, of this length.
+#[inline(always)]
 pub fn with_bytes(count: Checked, len: usize) -> Checked
     ensures { result ≡ grown count (bytes_count len) }
 {
@@ -66,6 +71,7 @@ pub fn with_bytes(count: Checked, len: usize) -> Checked
 }
 
 /// With a list, a set or a map, without its items.
+#[inline(always)]
 pub fn with_holder(count: Checked) -> Checked
     ensures { result ≡ grown count a_holder }
 {
@@ -73,6 +79,7 @@ pub fn with_holder(count: Checked) -> Checked
 }
 
 /// With an item, or a pair, beside its parts.
+#[inline(always)]
 pub fn with_item(count: Checked) -> Checked
     ensures { result ≡ grown count an_item }
 {
@@ -80,6 +87,7 @@ pub fn with_item(count: Checked) -> Checked
 }
 
 /// With a struct, without its fields.
+#[inline(always)]
 pub fn with_struct(count: Checked) -> Checked
     ensures { result ≡ grown count a_struct }
 {
@@ -87,6 +95,7 @@ pub fn with_struct(count: Checked) -> Checked
 }
 
 /// With what a field's need adds to a value that stands.
+#[inline(always)]
 pub fn with_need(count: Checked, need: Need) -> Checked
     ensures { result ≡ grown count (need_count need) }
 {
@@ -97,6 +106,7 @@ pub fn with_need(count: Checked, need: Need) -> Checked
 }
 
 /// With what a field has that does not stand.
+#[inline]
 fn with_default(count: Checked, field: FieldRef<'_>) -> Checked
     ensures { result ≡ grown count (count_of_default (field_of_ref field.entry)) }
 {

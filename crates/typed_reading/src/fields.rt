@@ -13,6 +13,7 @@ ghost use Rattle.typed_reading.specs.Marks.{place_in, Marked, listed};
 use idl_parse::{FieldRef, Need, TypeRef};
 use std::alloc::AllocError;
 
+#[inline]
 fn has_id(field: FieldRef<'_>, id: i16) -> bool
     ensures { result ≡ int_eq (field_of_ref field.entry).id id }
 {
@@ -20,6 +21,7 @@ fn has_id(field: FieldRef<'_>, id: i16) -> bool
 }
 
 /// The place of the field of an id. The likely place is tried first.
+#[inline(always)]
 pub fn find_place(ty: TypeRef<'_>, id: i16, likely: u32) -> Option<u32>
     requires kind { kind_of (type_of_ref ty) ≡ TypeKind.Struct }
     requires accepted { IsAccepted Any (type_of_ref ty) }
@@ -32,6 +34,7 @@ pub fn find_place(ty: TypeRef<'_>, id: i16, likely: u32) -> Option<u32>
 }
 
 /// The likely place of the next field: behind this one, if it is known.
+#[inline]
 pub fn place_behind(place: Option<u32>, likely: u32) -> u32 {
     match place {
         Some(place) => place.saturating_add(1),
@@ -40,6 +43,7 @@ pub fn place_behind(place: Option<u32>, likely: u32) -> u32 {
 }
 
 /// Lays marks for the fields of a struct's type on those that there are, none of them set.
+#[inline]
 pub fn add_marks(marks: &mut Vec<bool>, ty: TypeRef<'_>) -> Result<(), AllocError>
     requires { kind_of (type_of_ref ty) ≡ TypeKind.Struct }
     ensures below { OnOk result (take (length marks.old.items) marks.new.items ≡ marks.old.items) }
@@ -53,6 +57,7 @@ pub fn add_marks(marks: &mut Vec<bool>, ty: TypeRef<'_>) -> Result<(), AllocErro
 }
 
 /// Whether the mark at a place above a base is set.
+#[inline]
 pub fn is_marked(marks: &[bool], base: usize, place: u32) -> bool
     ensures { result ≡ slice_index_or (drop base marks.now) place false }
 {
@@ -65,6 +70,7 @@ pub fn is_marked(marks: &[bool], base: usize, place: u32) -> bool
 }
 
 /// Sets the mark at a place above a base, and tells whether it was set.
+#[inline(always)]
 pub fn set_mark(marks: &mut Vec<bool>, base: usize, place: u32) -> bool
     ensures new { marks.new.items ≡ set marks.old.items (base + place) true }
     ensures was { result ≡ slice_index_or (drop base marks.old.items) place false }

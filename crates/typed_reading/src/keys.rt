@@ -88,6 +88,7 @@ fn behind_text(key: Key<'_>, so_far: Progress) -> Progress
 }
 
 /// Behind a key of the type.
+#[inline]
 fn behind_key(ty: TypeRef<'_>, key: Key<'_>, so_far: Progress) -> Progress
     requires { so_far.next + 1 < 2 ^ 64 }
     ensures { (w : Node) → IsLeafAs (type_of_ref ty.entry) w → key_value w ≡ value_of key.entry
@@ -100,6 +101,7 @@ fn behind_key(ty: TypeRef<'_>, key: Key<'_>, so_far: Progress) -> Progress
 }
 
 /// A key of a key's type with the number of its node, the progress behind it, and the bytes after it.
+#[inline(always)]
 pub fn check_key<'a>(
     ty: TypeRef<'_>,
     kind: Kind,

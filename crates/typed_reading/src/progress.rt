@@ -44,6 +44,7 @@ fn lesser_of(known: Option<Found>, other: Found) -> Option<Found>
 }
 
 /// Behind a node without faults of its own.
+#[inline(always)]
 pub fn inside(so_far: Progress) -> Progress
     requires { so_far.next + 1 < 2 ^ 64 }
     ensures { result ≡ inside_of so_far }
@@ -55,6 +56,7 @@ pub fn inside(so_far: Progress) -> Progress
 }
 
 /// Behind nodes that are not looked at.
+#[inline]
 pub fn skipped(so_far: Progress, next: u64) -> Progress
     ensures { result ≡ skipped_to so_far next }
 {
@@ -72,6 +74,7 @@ pub fn with(so_far: Progress, fault: NodeFault, next: u64) -> Progress
 }
 
 /// With a fault at a node, and then at the node `next`.
+#[inline(never)]
 pub fn with_found(so_far: Progress, node: u64, fault: NodeFault, next: u64) -> Progress
     ensures { result ≡ record { found = lesser so_far.found (Some (here node fault)); next = next } }
 {
@@ -83,6 +86,7 @@ pub fn with_found(so_far: Progress, node: u64, fault: NodeFault, next: u64) -> P
 
 /// With the fault of a struct that lacks a field.
 #[tactic(auto, using(crate::proofs::Order::lesser_none))]
+#[inline(always)]
 pub fn with_missing(known: Progress, node: u64, missing: Option<i16>) -> Progress
     ensures { result ≡ record { found = lesser known.found (least (all_here node (listed missing))); next = known.next } }
 {

@@ -30,6 +30,7 @@ pub fn is_text(bytes: &[u8]) -> bool
     }
 }
 
+#[inline]
 fn check_text(bytes: &[u8], so_far: Progress) -> Result<(Progress, &[u8]), Stop>
     requires { so_far.next + length bytes.now < 2 ^ 64 }
     ensures reads { Meets (λ x. (x.0, x.1.now)) result (seen (after text so_far) (scalar Binary bytes.now)) }
@@ -45,6 +46,7 @@ fn check_text(bytes: &[u8], so_far: Progress) -> Result<(Progress, &[u8]), Stop>
 }
 
 /// A value of a kind that is no container, of the type's code.
+#[inline(always)]
 pub fn check_leaf<'a>(
     ty: TypeRef<'_>,
     kind: Kind,

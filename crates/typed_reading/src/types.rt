@@ -9,6 +9,7 @@ ghost use Rattle.typed_reading.specs.Progress.{kind_code as code_of_kind};
 use compact_wire::{Kind, PairKinds, code_of};
 use idl_parse::{TypeKind, TypeRef};
 
+#[inline]
 fn kind_code(kind: TypeKind) -> u8
     ensures is { result ≡ code_of_kind kind }
     ensures small { result < 16 }
@@ -29,6 +30,7 @@ fn kind_code(kind: TypeKind) -> u8
 
 /// The code of a type's values; an enum is an i32. docs/COMPACT.md has the codes.
 #[tactic(auto, using(crate::proofs::TypeLaws::code_is))]
+#[inline]
 pub fn code(ty: TypeRef<'_>) -> u8
     ensures is { result ≡ type_code (type_of_ref ty.entry) }
     ensures small { result < 16 }
@@ -37,6 +39,7 @@ pub fn code(ty: TypeRef<'_>) -> u8
 }
 
 /// Whether so many elements of a kind may stand where the type is that of the elements.
+#[inline]
 pub fn elements_fit(kind: Kind, count: u64, element: TypeRef<'_>) -> bool
     ensures { result ≡ (nat_eq count 0 || nat_eq (wire_code kind) (type_code (type_of_ref element.entry))) }
 {
@@ -44,6 +47,7 @@ pub fn elements_fit(kind: Kind, count: u64, element: TypeRef<'_>) -> bool
 }
 
 /// Whether pairs of two kinds may stand where the types are those of keys and values.
+#[inline]
 pub fn pairs_fit(kinds: PairKinds, key: TypeRef<'_>, value: TypeRef<'_>) -> bool
     ensures { result ≡ (nat_eq (wire_code kinds.key) (type_code (type_of_ref key.entry))
         && nat_eq (wire_code kinds.value) (type_code (type_of_ref value.entry))) }

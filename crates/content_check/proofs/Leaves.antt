@@ -8,8 +8,8 @@ use Rattle.std.proofs.lemmas.Int.{ints}
 use Rattle.std.proofs.lemmas.Nat.{pow_pos}
 use Rattle.std.proofs.lemmas.Bool.Decides.{nat_tests}
 use Rattle.frozen_model.specs.Bits.{field, signed}
-use Rattle.frozen_model.specs.Trees.{Whole, LeafKind, Flag, Integer, Leaf, ByteRange, ItemRange, Optional}
-use Rattle.frozen_model.specs.Trees.{Struct, Part, PartAll, itself, in_item, in_optional, in_struct, in_first}
+use Rattle.frozen_model.specs.Trees.{Whole, LeafKind, Integer, Leaf}
+use Rattle.frozen_model.specs.Trees.{Part, PartAll, itself, in_item, in_optional, in_struct, in_first}
 use Rattle.frozen_model.specs.Trees.{in_later, value_bits, greatest}
 use Rattle.frozen_model.specs.Values.{InBits}
 use Rattle.frozen_model.specs.Layouts.{Version, Version1, Version2, Layout, Coded, IsCoded, signed_coded}

@@ -15,7 +15,7 @@ use Rattle.key_order.specs.declared.key.Key.{Key}
 use Rattle.content_check.specs.Steps.{IsMap, IsOfKind}
 use Rattle.content_check.specs.Agreeing.{key_value}
 use Rattle.content_check.proofs.Walks.{RangeAt, EachLeft, Walks}
-use Rattle.content_check.proofs.SetForms.{formed_part, key_n, is_key}
+use Rattle.content_check.proofs.SetForms.{formed_kinds, key_n, is_key}
 use Rattle.layout_tree.proofs.Readings.{same_nodes}
 use Rattle.layout_tree.proofs.Children.{Child, FieldsAt, struct_at, first_child, later_children}
 use Rattle.content_check.specs.declared.fault.ContentFault.{ContentFault}
@@ -78,7 +78,7 @@ pair_at (Optional w m) h = absurd (omega arith)
 pub map_pair : (e : FormVersion) (t s : Noted) (n : ℕ) → ∥ IsNotedLayout e t ∥₁ → Part t 0 s n
     → IsMap (layout_in (version_of e) s) → PairAt (item_of (layout_in (version_of e) s))
 map_pair e t s n h p i = pair_at (item_of (layout_in (version_of e) s))
-    (∥∥₁_elim h le_prop (λ x. map_n (version_of e) s (formed_part p x.kind_tree.formed) i))
+    (∥∥₁_elim h le_prop (λ x. map_n (version_of e) s (formed_kinds p x.kind_tree.formed) i))
 
 pub record PairNodes (t : Noted) (v : Version) (n : ℕ) (m : Layout) (p : PairAt m) : Type 0 where
   pub key : Child t v (n + 4) p.key

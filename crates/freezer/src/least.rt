@@ -1,4 +1,4 @@
-//! The packing of a value in its least layout.
+//! The least layout of a value, and its packing there.
 
 ghost use Rattle.std.specs.Prelude.{◌≡◌, ◌≤◌, IfOk, true};
 ghost use Rattle.idl_profile.specs.Types.{root_of};
@@ -31,8 +31,13 @@ pub struct Frozen {
     pub content: Vec<u8>,
 }
 
-// Measures a value with a counter of its own.
-fn measure_alone<L: Ledger>(
+/// Measures a value of a definition's root, of at most `cell_limit` cells, with a counter of its own: the
+/// least layout of version 2, and the number of bytes of the packing there.
+///
+/// # Errors
+///
+/// `AllocError` where memory runs out, and nowhere else.
+pub fn measure_alone<L: Ledger>(
     blank: Blank,
     alloc: Global,
     def: &Definition,

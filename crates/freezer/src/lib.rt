@@ -7,7 +7,7 @@ mod pack;
 mod put;
 mod write;
 
-pub use least::{Frozen, freeze};
+pub use least::{Frozen, freeze, measure_alone};
 pub use pack::freeze_into;
 
 #[cfg(test)]

@@ -13,10 +13,11 @@ use Rattle.layout_tree.specs.declared.node.Kind.TheVariants as kinds
 use Rattle.layout_tree.specs.Listing.{kind_of, spec}
 use Rattle.layout_tree.specs.Given.{shown}
 use Rattle.layout_tree.specs.Reading.{base_of}
+use Rattle.typed_reading.proofs.FieldLaws.{int_eq_same}
 use Rattle.layout_schema.specs.Schemas.{type_name}
 use Rattle.layout_schema.specs.Shapes.{Child, Entry, entry_of, Place, AtRoot, InStruct, InList, InSet, InMap, AtFirst, AtValue, AtIsset, AtSize, may_stand, place_of, deeper, kind_named, are_fields, fields_fit, greatest_of, is_width, base_fits, At, may_enter, is_named, Walked, and_then, nothing, in_front, walk_children, done, entered, found, walk_part}
 use Rattle.layout_schema.proofs.Climbing.{Climbs}
-use Rattle.layout_schema.proofs.Listed.{int_is, child_of, node_entry, HasSize, Has}
+use Rattle.layout_schema.proofs.Listed.{child_of, node_entry, HasSize, Has}
 use Rattle.layout_schema.proofs.Stands.{struct_at, kind_here, IsPairAt, Stands, depth, tree_walked, node_at, size_walked, at_node, item_place}
 use Rattle.layout_schema.proofs.Walks.{offset_at, taken, same_walked}
 
@@ -94,7 +95,7 @@ enters ls room at n a e = with_entry (entry_of ls n) refl e
             is = is;
             name = named_is x.name k ek;
             few = ltb-true n 4096 c1.0;
-            size = int_is x.size (pos 0) c2.0;
+            size = int_eq_same x.size (pos 0) c2.0;
             may = c3.0;
             fit = c4.0;
             wide = c5.0;
@@ -162,7 +163,7 @@ isset_kind kinds.Flag m = refl
 isset_kind _ m = absurd cc
 
 pub zero_base : (z : ℤ) → int_eq z (pos 0) ≡ true → z ≡ pos 0
-zero_base z h = int_is z (pos 0) h
+zero_base z h = int_eq_same z (pos 0) h
 
 -- a distance or a count
 pub record Sized (ls : Values) (n p f o : ℕ) (a : Walked) : Type 0 where
@@ -240,7 +241,7 @@ child_walks enter k level p c cs n o y f place ef ep e =
     let first = and_then_ok (enter (at_node place (level + deeper place) p f (offset_at place o)) n) (rest place) y one.1 in
     let second = and_then_ok (walk_children enter k level p cs (n + length first.0.nodes) (o + taken place first.0.bits)) (λ b. Ok (in_front place first.0 b)) y first.2 in
     record {
-      child = same_child c f n (offset_at place o) ef (int_is c.number (pos n) named.0) (int_is c.offset (neg_ℤ (pos (offset_at place o))) named.1);
+      child = same_child c f n (offset_at place o) ef (int_eq_same c.number (pos n) named.0) (int_eq_same c.offset (neg_ℤ (pos (offset_at place o))) named.1);
       one = first.0;
       here = first.1;
       more = second.0;
@@ -277,7 +278,7 @@ done_is at n x k below a eg e =
     let one = if_ok (int_eq x.bits (pos below.bits) && nat_le below.greatest 32767) (Ok is) (pos n) a (subst (λ r. done at n x k r below ≡ Ok a) eg e) in
     let two = and_parts (int_eq x.bits (pos below.bits)) (nat_le below.greatest 32767) one.0 in
     record {
-      bits = int_is x.bits (pos below.bits) two.0;
+      bits = int_eq_same x.bits (pos below.bits) two.0;
       most = leb-true below.greatest 32767 two.1;
       whole = ok_is is a one.1;
     }
@@ -435,7 +436,7 @@ two_fields (a ∷ b ∷ c ∷ cs) h =
 two_fields (a ∷ b ∷ []) h =
     let e = and_parts (int_eq a.field (pos 1)) (int_eq b.field (pos 2) && true) h in
     let g = and_parts (int_eq b.field (pos 2)) true e.1 in
-    record { a = a; b = b; is = refl; first = int_is a.field (pos 1) e.0; second = int_is b.field (pos 2) g.0 }
+    record { a = a; b = b; is = refl; first = int_eq_same a.field (pos 1) e.0; second = int_eq_same b.field (pos 2) g.0 }
 
 pub three_fields : (cs : List Child) → are_fields (pos 1 ∷ pos 2 ∷ pos 3 ∷ []) cs ≡ true → Three cs
 three_fields [] h = absurd cc
@@ -453,4 +454,4 @@ three_fields (a ∷ b ∷ c ∷ []) h =
     let e = and_parts (int_eq a.field (pos 1)) (int_eq b.field (pos 2) && (int_eq c.field (pos 3) && true)) h in
     let g = and_parts (int_eq b.field (pos 2)) (int_eq c.field (pos 3) && true) e.1 in
     let i = and_parts (int_eq c.field (pos 3)) true g.1 in
-    record { a = a; b = b; c = c; is = refl; first = int_is a.field (pos 1) e.0; second = int_is b.field (pos 2) g.0; third = int_is c.field (pos 3) i.0 }
+    record { a = a; b = b; c = c; is = refl; first = int_eq_same a.field (pos 1) e.0; second = int_eq_same b.field (pos 2) g.0; third = int_eq_same c.field (pos 3) i.0 }

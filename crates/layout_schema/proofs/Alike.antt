@@ -14,12 +14,12 @@ use Rattle.layout_tree.specs.Given.{shown, noted_from, all_noted_from}
 use Rattle.layout_tree.specs.Reading.{whole_kind}
 use Rattle.layout_schema.specs.Schemas.{number, base_in, child_value, children_of, layout_of_node, layouts_of}
 
-abbrev plain_base : Version → NodeSpec → ℤ
+abbrev pub plain_base : Version → NodeSpec → ℤ
 plain_base Version1 s = pos 0
 plain_base Version2 s = base_in s
 
 -- a node as a schema has it
-abbrev plain : Version → NodeSpec → NodeSpec
+abbrev pub plain : Version → NodeSpec → NodeSpec
 plain v s = record {
   kind = s.kind;
   field = s.field;
@@ -35,7 +35,7 @@ plain_children v p n [] = refl
 plain_children v p n (x ∷ xs) =
     ap (λ r. if x.parent == p then And (pair (number x.field) (child_value n x)) r else r) (plain_children v p (suc n) xs)
 
-twice : (b : Bool) (z : ℤ) → (if b then (if b then z else pos 0) else pos 0) ≡ (if b then z else pos 0)
+pub twice : (b : Bool) (z : ℤ) → (if b then (if b then z else pos 0) else pos 0) ≡ (if b then z else pos 0)
 twice true z = refl
 twice false z = refl
 
@@ -53,7 +53,7 @@ plain_layouts v n (x ∷ xs) =
     ∙ ap (And (pair (number (pos n)) (layout_of_node v (shown x) (children_of n (suc n) (map shown xs))))) later
 
 mutual
-  same_inline : (v : Version) (t : Noted) → inline (noted_from (layout_in v t)) ≡ inline t
+  pub same_inline : (v : Version) (t : Noted) → inline (noted_from (layout_in v t)) ≡ inline t
   same_inline v (Leaf Flag c) = refl
   same_inline Version1 (Leaf (Integer k) c) = refl
   same_inline Version2 (Leaf (Integer k) c) = refl
@@ -62,24 +62,24 @@ mutual
   same_inline v (Optional w l) = ap (λ n. w.bits + n) (same_inline v l)
   same_inline v (Struct ls) = same_inline_all v ls
 
-  same_inline_all : (v : Version) (ls : AllNoted) → inline_all (all_noted_from (layouts_in v ls)) ≡ inline_all ls
+  pub same_inline_all : (v : Version) (ls : AllNoted) → inline_all (all_noted_from (layouts_in v ls)) ≡ inline_all ls
   same_inline_all v NoField = refl
   same_inline_all v (Field i l ls) = let e = same_inline v l in let f = same_inline_all v ls in cc
 
 mutual
-  same_count : (v : Version) (t : Noted) → nodes (noted_from (layout_in v t)) ≡ nodes t
+  pub same_count : (v : Version) (t : Noted) → nodes (noted_from (layout_in v t)) ≡ nodes t
   same_count v (Leaf k c) = refl
   same_count v (ByteRange t d c) = refl
   same_count v (ItemRange g d c l) = ap (λ n. 3 + n) (same_count v l)
   same_count v (Optional w l) = ap (λ n. 2 + n) (same_count v l)
   same_count v (Struct ls) = ap (λ n. 1 + n) (same_count_all v ls)
 
-  same_count_all : (v : Version) (ls : AllNoted) → nodes_all (all_noted_from (layouts_in v ls)) ≡ nodes_all ls
+  pub same_count_all : (v : Version) (ls : AllNoted) → nodes_all (all_noted_from (layouts_in v ls)) ≡ nodes_all ls
   same_count_all v NoField = refl
   same_count_all v (Field i l ls) = let e = same_count v l in let f = same_count_all v ls in cc
 
 mutual
-  same_plain : (v : Version) (t : Noted) (sk : Kind) (i p f o : ℕ)
+  pub same_plain : (v : Version) (t : Noted) (sk : Kind) (i p f o : ℕ)
       → map (plain v) (nodes_of t sk i p f o) ≡ map (plain v) (nodes_of (noted_from (layout_in v t)) sk i p f o)
   same_plain Version1 (Leaf Flag c) sk i p f o = refl
   same_plain Version2 (Leaf Flag c) sk i p f o = refl
@@ -98,7 +98,7 @@ mutual
   same_plain Version2 (Struct ls) sk i p f o =
       let e = same_plain_all Version2 ls (suc i) i 0 in let b = same_inline_all Version2 ls in rw (e, b) refl
 
-  same_plain_all : (v : Version) (ls : AllNoted) (i p o : ℕ)
+  pub same_plain_all : (v : Version) (ls : AllNoted) (i p o : ℕ)
       → map (plain v) (nodes_of_all ls i p o) ≡ map (plain v) (nodes_of_all (all_noted_from (layouts_in v ls)) i p o)
   same_plain_all v NoField i p o = refl
   same_plain_all v (Field id l ls) i p o =

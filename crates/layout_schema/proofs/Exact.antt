@@ -14,12 +14,12 @@ use Rattle.typed_reading.specs.Laws.{TypedIsValue}
 use Rattle.typed_reading.proofs.LeastLaws.{least_none}
 use Rattle.layout_tree.specs.declared.node.NodeSpec.{NodeSpec}
 use Rattle.layout_tree.specs.Listing.{layout_in, tree_of, version_number}
+use Rattle.typed_reading.proofs.FieldLaws.{int_eq_same}
 use Rattle.layout_schema.specs.declared.fault.SchemaFault.{SchemaFault}
 use Rattle.layout_schema.specs.declared.fault.SchemaFault.TheVariants as fault
 use Rattle.layout_schema.specs.Schemas.{schema_type, schema_with, schema_of}
 use Rattle.layout_schema.specs.Shapes.{relaxes_in, version_in, layouts_in as rows_in, shape_in}
 use Rattle.layout_schema.specs.Answers.{IsRelaxedAs, SchemaBytes, with_fields, with_shape, with_version, schema_in, IsSaid}
-use Rattle.layout_schema.proofs.Listed.{int_is}
 use Rattle.layout_schema.proofs.OwnSchema.{keyed, layout_kinds, schema_accepted, schema_short, schema_is_value}
 use Rattle.layout_schema.proofs.Shape.{listed_again, shape_complete, OwnRows, parts, shape_sound}
 use Rattle.layout_schema.proofs.Versions.{schema_weaker, versions_agree, relaxes_agree}
@@ -126,12 +126,12 @@ module _ (values : TypedIsValue) (b : List ℕ) (w : Node) (spelled : SpellsWire
       go : (m n : Bool) → int_eq (version_in s) (pos 1) ≡ m → int_eq (version_in s) (pos 2) ≡ n
           → (if m then with_shape Version1 false (shape_in s) else (if n then second w (relaxes_in s) else Err (fault.Version (version_in s)))) ≡ Ok d → SchemaBytes b d
       go true n em en h =
-          of_version Version1 false d clean (ap version_in is ∙ int_is (version_in s) (pos 1) em) refl (λ q. absurd cc) (ap (λ y. with_shape Version1 false (shape_in y)) is ∙ h)
+          of_version Version1 false d clean (ap version_in is ∙ int_eq_same (version_in s) (pos 1) em) refl (λ q. absurd cc) (ap (λ y. with_shape Version1 false (shape_in y)) is ∙ h)
       go false true em en h =
           let u = meaning w (schema_type Version2) in
           let two = fields_ok (least (faults w (schema_type Version2) 0)) (with_shape Version2 (relaxes_in s) (shape_in u)) d h in
           of_version Version2 (relaxes_in s) d (least_none (faults w (schema_type Version2) 0) two.0)
-          (sym (versions_agree w) ∙ ap version_in is ∙ int_is (version_in s) (pos 2) en) tt (λ q. sym (relaxes_agree w) ∙ ap relaxes_in is) two.1
+          (sym (versions_agree w) ∙ ap version_in is ∙ int_eq_same (version_in s) (pos 2) en) tt (λ q. sym (relaxes_agree w) ∙ ap relaxes_in is) two.1
       go false false em en h = absurd cc
 
   pub said_schema : (d : Described) → schema_in w ≡ Ok d → SchemaBytes b d

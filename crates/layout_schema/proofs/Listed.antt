@@ -3,7 +3,6 @@ use Rattle.std.proofs.Common.{◌≡◌, ℕ, zero, suc, ◌+◌, ◌<◌, ◌�
 use Rattle.std.specs.Prelude.{neg_ℤ, nat_abs}
 use Rattle.std.specs.Ordering.{int_eq}
 use Rattle.std.proofs.lemmas.Bool.{false_from_ne_true}
-use Rattle.std.proofs.lemmas.Bool.Decides.{Decides-int_eq}
 use Rattle.std.proofs.lemmas.List.{append-nil, map-append, length-map, drop-drop}
 use Rattle.std.proofs.Math.Seq.{drop-append_seam}
 use Rattle.frozen_model.specs.Trees.{I8, I16, I32, I64, LeafKind, Leaf, ByteRange, ItemRange, Optional, Struct, NoField, Field, nodes, nodes_all}
@@ -19,6 +18,7 @@ use Rattle.layout_tree.specs.Reading.{whole_kind, base_of}
 use Rattle.layout_tree.specs.Segments.{head_node, rest_nodes}
 use Rattle.layout_tree.proofs.Settling.{split_nodes}
 use Rattle.layout_tree.proofs.Place.{length_nodes}
+use Rattle.typed_reading.proofs.FieldLaws.{int_eq_same, int_eq_refl}
 use Rattle.layout_schema.specs.Schemas.{type_name, number, child_value, children_of, layout_of_node, layouts_of}
 use Rattle.layout_schema.specs.Shapes.{Child, Entry, children_in, entry_in, entry_of}
 use Rattle.layout_schema.proofs.Spots.{Childless, childless_append, others, others_all, below_others, nodes_below}
@@ -26,14 +26,8 @@ use Rattle.layout_schema.proofs.Places.{same_test, shown_childless, children_pas
 
 -- ---- tests of numbers
 
-pub int_same : (z : ℤ) → int_eq z z ≡ true
-int_same z = (Decides-int_eq z z).1 refl
-
-pub int_is : (x y : ℤ) → int_eq x y ≡ true → x ≡ y
-int_is x y e = (Decides-int_eq x y).0 e
-
 pub int_other : (m n : ℕ) → (m ≡ n → ⊥) → int_eq (pos m) (pos n) ≡ false
-int_other m n h = false_from_ne_true (int_eq (pos m) (pos n)) (λ e. h (ap nat_abs (int_is (pos m) (pos n) e)))
+int_other m n h = false_from_ne_true (int_eq (pos m) (pos n)) (λ e. h (ap nat_abs (int_eq_same (pos m) (pos n) e)))
 
 -- ---- what layouts say
 
@@ -88,7 +82,7 @@ entry_drop v [] m zero n e = refl
 entry_drop v [] m (suc k) n e = refl
 entry_drop v (z ∷ zs) m zero n e =
     let same : n ≡ m = omega arith in
-    let t : int_eq (pos m) (pos n) ≡ true = subst (λ k. int_eq (pos m) (pos k) ≡ true) (sym same) (int_same (pos m)) in
+    let t : int_eq (pos m) (pos n) ≡ true = subst (λ k. int_eq (pos m) (pos k) ≡ true) (sym same) (int_eq_refl (pos m)) in
     rw t (ap (λ k. Some (entry_in (layout_of_node v z (children_of k (suc k) zs)))) (sym same))
 entry_drop v (z ∷ zs) m (suc k) n e =
     let t = int_other m n (λ x. omega arith) in

@@ -30,6 +30,7 @@ use Rattle.layout_tree.specs.declared.node.NodeSpec.{NodeSpec}
 use Rattle.layout_tree.specs.Given.{IsListOf, ListsLayout}
 use Rattle.layout_tree.specs.Listing.{layout_in, tree_of}
 use Rattle.layout_tree.specs.Nodes.{layout_of}
+use Rattle.typed_reading.proofs.FieldLaws.{int_eq_same}
 use Rattle.layout_schema.specs.declared.fault.SchemaFault.{SchemaFault}
 use Rattle.layout_schema.specs.declared.fault.SchemaFault.TheVariants as fault
 use Rattle.layout_schema.specs.Schemas.{schema_type}
@@ -37,7 +38,6 @@ use Rattle.layout_schema.specs.Shapes.{relaxes_in, version_in, shape_in}
 use Rattle.layout_schema.specs.Answers.{with_fields, with_shape, with_version, schema_in, IsSaid, IsSchemaFault}
 use Rattle.layout_schema.specs.Reading.{IsSchemaValue, IsAtFault}
 use Rattle.layout_schema.specs.Telling.{fault_told, IsFaultyAt, IsSpelled, IsReadAs, IsSchemaOf, Tells, IsAnswer}
-use Rattle.layout_schema.proofs.Listed.{int_is}
 use Rattle.layout_schema.proofs.ReadEntries.{in_bits, schema_form}
 use Rattle.layout_schema.proofs.OwnSchema.{schema_accepted, schema_short}
 use Rattle.layout_schema.proofs.Shape.{listed_again, shape_sound}
@@ -211,8 +211,8 @@ module _ (b : List ℕ) where
     other_version z e not_one not_two = inl (h.0, h.1, said_by_version ∙ by_version h.0 s ∙ ap (λ y. if int_eq y (pos 1) then with_shape Version1 false (shape_in s) else second_or y h.0 (relaxes_in s)) e ∙ other (int_eq z (pos 1)) (int_eq z (pos 2)) refl refl)
       where
         other : (m n : Bool) → int_eq z (pos 1) ≡ m → int_eq z (pos 2) ≡ n → (if int_eq z (pos 1) then with_shape Version1 false (shape_in s) else second_or z h.0 (relaxes_in s)) ≡ Err (fault.Version z)
-        other true n em en = absurd (not_one (int_is z (pos 1) em))
-        other false true em en = absurd (not_two (int_is z (pos 2) en))
+        other true n em en = absurd (not_one (int_eq_same z (pos 1) em))
+        other false true em en = absurd (not_two (int_eq_same z (pos 2) en))
         other false false em en = rw em (rw en refl)
 
   -- ---- what an answer tells

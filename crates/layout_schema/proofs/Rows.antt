@@ -14,10 +14,11 @@ use Rattle.layout_tree.specs.declared.node.Kind.TheVariants as kinds
 use Rattle.layout_tree.specs.Listing.{item_struct}
 use Rattle.layout_tree.specs.Given.{noted_from, all_noted_from}
 use Rattle.compact_codec.specs.Wire.{number_in}
+use Rattle.typed_reading.proofs.FieldLaws.{int_eq_refl}
 use Rattle.layout_schema.specs.Schemas.{number, layouts_of}
 use Rattle.layout_schema.specs.Shapes.{part, Child, Entry, child_in, children_in, entry_in, entry_of, is_walked, unwalked}
 use Rattle.layout_schema.proofs.Climbing.{Climbs}
-use Rattle.layout_schema.proofs.Listed.{int_same, int_other, Has, HasAll}
+use Rattle.layout_schema.proofs.Listed.{int_other, Has, HasAll}
 use Rattle.layout_schema.proofs.Accepted.{Proper, AllProper}
 use Rattle.layout_schema.proofs.OwnSchema.{keyed, child_kinds, layout_kinds}
 
@@ -150,7 +151,7 @@ none_below m top n (And u us) h lt =
 
 -- the entry under the key of a row, and under a greater number
 here_is : (u : Value) (us : Values) (j : ℕ) → number_in (part u 0) ≡ pos j → entry_of (And u us) j ≡ Some (entry_in (part u 1))
-here_is u us j k = let t = int_same (pos j) in rw (k, t) refl
+here_is u us j k = let t = int_eq_refl (pos j) in rw (k, t) refl
 
 later_is : (u : Value) (us : Values) (j n : ℕ) → number_in (part u 0) ≡ pos j → j < n → entry_of (And u us) n ≡ entry_of us n
 later_is u us j n k lt = let t = int_other j n (λ e. omega (arith, lt, e)) in rw (k, t) refl

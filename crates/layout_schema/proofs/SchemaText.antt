@@ -29,22 +29,22 @@ use Rattle.layout_schema.specs.SchemaText.{field_struct, layout_struct, schema_s
 
 -- ---- names
 
-all_of : (w : List ℕ) → list_all is_word_character w ≡ true → Every is_word_character w
+pub all_of : (w : List ℕ) → list_all is_word_character w ≡ true → Every is_word_character w
 all_of [] e = tt
 all_of (c ∷ w) e = let p = and_parts _ _ e in (p.0, all_of w p.1)
 
-abbrev is_word : List ℕ → Bool
+abbrev pub is_word : List ℕ → Bool
 is_word [] = false
 is_word (c ∷ w) = is_word_start c && list_all is_word_character w
 
-word : (w : List ℕ) → is_word w ≡ true → IsWord w
+pub word : (w : List ℕ) → is_word w ≡ true → IsWord w
 word [] e = absurd (let f : false ≡ true = e in cc)
 word (c ∷ w) e = let p = and_parts _ _ e in (p.0, all_of w p.1)
 
-name : (w : List ℕ) → is_word w ≡ true → is_name w ≡ true → IsName w
+pub name : (w : List ℕ) → is_word w ≡ true → is_name w ≡ true → IsName w
 name w e n = (word w e, n)
 
-apart : (i j : ℤ) (v w : List ℕ) → int_eq i j ≡ false → bytes_eq v w ≡ false → (i ≢ j) × (v ≢ w)
+pub apart : (i j : ℤ) (v w : List ℕ) → int_eq i j ≡ false → bytes_eq v w ≡ false → (i ≢ j) × (v ≢ w)
 apart i j v w ids names = (λ e. let t = (Decides-int_eq i j).1 e in cc, λ e. let t = (bytes_eq-Decides v w).1 e in cc)
 
 -- ---- the three structs are proper
@@ -61,7 +61,7 @@ schema_names : IsName (codes "Schema") × IsName (codes "relaxTypeChecks") × Is
 unfolding is_name
 schema_names = (name (codes "Schema") refl refl, name (codes "relaxTypeChecks") refl refl, name (codes "layouts") refl refl, name (codes "rootLayout") refl refl, name (codes "fileVersion") refl refl)
 
-other : (v w : List ℕ) → bytes_eq v w ≡ false → v ≢ w
+pub other : (v w : List ℕ) → bytes_eq v w ≡ false → v ≢ w
 other v w e is = let t = (bytes_eq-Decides v w).1 is in cc
 
 field_is : NamedFits [] field_struct
@@ -132,10 +132,10 @@ means v =
 below_2_31 : (n : ℕ) → nat_lt n 2147483648 ≡ true → n < 2 ^ 31
 below_2_31 n e = grind (arith, nat_tests)
 
-below_128 : (b : ℕ) → nat_lt b 128 ≡ true → b < 128
+pub below_128 : (b : ℕ) → nat_lt b 128 ≡ true → b < 128
 below_128 b e = grind (arith, nat_tests)
 
-ascii : (bs : List ℕ) → list_all (λ b. nat_lt b 128) bs ≡ true → IsAscii bs
+pub ascii : (bs : List ℕ) → list_all (λ b. nat_lt b 128) bs ≡ true → IsAscii bs
 ascii [] e i = omega arith
 ascii (b ∷ bs) e zero = below_128 b (and_parts _ _ e).0
 ascii (b ∷ bs) e (suc i) = ascii bs (and_parts _ _ e).1 i

@@ -15,9 +15,10 @@ use Rattle.layout_tree.proofs.Decode.{tree_again}
 use Rattle.layout_tree.proofs.Place.{length_nodes}
 use Rattle.layout_tree.proofs.Taken.{layout_from, nodes_from}
 use Rattle.compact_codec.specs.Wire.{flag_in}
+use Rattle.typed_reading.proofs.FieldLaws.{int_eq_same}
 use Rattle.layout_schema.specs.Schemas.{number, layouts_of, schema_with}
 use Rattle.layout_schema.specs.Shapes.{relaxes_in, version_in, layouts_in as rows_in, root_in, AtRoot, may_stand, Walked, walk_part, unwalked, no_other, all_walked, at_root, shape_in}
-use Rattle.layout_schema.proofs.Listed.{int_is, has_own}
+use Rattle.layout_schema.proofs.Listed.{has_own}
 use Rattle.layout_schema.proofs.Stands.{kind_here, Stands, tree_walked}
 use Rattle.layout_schema.proofs.Walks.{walks}
 use Rattle.layout_schema.proofs.Sound.{sound}
@@ -192,7 +193,7 @@ shape_if : (z : ℤ) (r : Result (List NodeSpec) ℤ) (ns : List NodeSpec) → (
 shape_if z r ns e = go (int_eq z (pos 0)) refl e
   where
     go : (b : Bool) → int_eq z (pos 0) ≡ b → (if b then r else Err z) ≡ Ok ns → (z ≡ pos 0) × (r ≡ Ok ns)
-    go true t h = (int_is z (pos 0) t, h)
+    go true t h = (int_eq_same z (pos 0) t, h)
     go false t h = absurd cc
 
 pub shape_sound : (v : Version) (s : Value) (ns : List NodeSpec) → OwnRows v → Of (schema_kinds v) s → version_in s ≡ version_number v → shape_in s ≡ Ok ns → Said v s ns

@@ -16,9 +16,9 @@ use Rattle.typed_reading.specs.Faults.{has_id, type_of_field, type_in, is_among,
 use Rattle.compact_codec.specs.Wire.{flag_in, number_in}
 use Rattle.typed_reading.specs.Meaning.{given, under, reading, meaning, readings}
 use Rattle.typed_reading.proofs.Valued.{none_of, clean_below}
+use Rattle.typed_reading.proofs.FieldLaws.{int_eq_same}
 use Rattle.layout_schema.specs.Schemas.{base_type, layout_type, schema_type}
 use Rattle.layout_schema.specs.Shapes.{relaxes_in, version_in}
-use Rattle.layout_schema.proofs.Listed.{int_is}
 
 -- a node without a fault as one type has none as the other
 abbrev Weaker : TypeTree → TypeTree → Type 0
@@ -197,7 +197,7 @@ same_under k here (field id x xs) = go (int_eq id k) refl (same_under k here xs)
     go : (b : Bool) → int_eq id k ≡ b → under k (readings xs first_fields) ≡ under k (readings xs second_fields)
         → under k (reading id (type_in first_fields id) (meaning x) (readings xs first_fields)) ≡ under k (reading id (type_in second_fields id) (meaning x) (readings xs second_fields))
     go true e later =
-        subst (λ j. under k (reading j (type_in first_fields j) (meaning x) (readings xs first_fields)) ≡ under k (reading j (type_in second_fields j) (meaning x) (readings xs second_fields))) (sym (int_is id k e))
+        subst (λ j. under k (reading j (type_in first_fields j) (meaning x) (readings xs first_fields)) ≡ under k (reading j (type_in second_fields j) (meaning x) (readings xs second_fields))) (sym (int_eq_same id k e))
         (here x (readings xs first_fields) (readings xs second_fields))
     go false e later = passed k id (type_in first_fields id) (meaning x) (readings xs first_fields) e ∙ later ∙ sym (passed k id (type_in second_fields id) (meaning x) (readings xs second_fields) e)
 

@@ -14,8 +14,9 @@ use Rattle.layout_tree.specs.Listing.{inline, inline_all, kind_of, kind_of_bytes
 use Rattle.layout_tree.specs.Given.{shown, noted_from, all_noted_from}
 use Rattle.layout_tree.specs.Reading.{base_of}
 use Rattle.layout_tree.proofs.Place.{length_nodes}
+use Rattle.typed_reading.proofs.FieldLaws.{int_eq_refl}
 use Rattle.layout_schema.specs.Shapes.{Child, entry_of, Place, AtRoot, InStruct, InList, InSet, InMap, AtFirst, AtValue, AtIsset, AtSize, may_stand, place_of, is_inline, deeper, is_id, are_ids, fields_fit, greatest_of, is_width, base_fits, At, Walked, nothing, in_front, walk_children, done, found, walk_part}
-use Rattle.layout_schema.proofs.Listed.{int_same, child_of, node_entry, HasSize, two_children, three_children, field_children, Has, HasAll}
+use Rattle.layout_schema.proofs.Listed.{child_of, node_entry, HasSize, two_children, three_children, field_children, Has, HasAll}
 use Rattle.layout_schema.proofs.Stands.{struct_at, Stands, AllStand, tree_walked, fields_walked, node_at, size_walked, at_node, named_kind, wide_leaf, base_leaf, item_place, struct_of_item, item_stands, value_stands, struct_stands, level_in, some_noted}
 
 -- ---- steps
@@ -50,8 +51,8 @@ child_ok : (enter : At → ℕ → Result Walked ℤ) (k : Kind) (level p f n o 
     → n + length a.nodes ≡ m → o + taken place a.bits ≡ next → walk_children enter k level p cs m next ≡ Ok b
     → walk_children enter k level p (child_of f n off ∷ cs) n o ≡ Ok (in_front place a b)
 child_ok enter k level p f n o cs place a b m off next ep eo here em en later =
-    let t1 = int_same (pos n) in
-    let t2 = int_same (neg_ℤ (pos off)) in
+    let t1 = int_eq_refl (pos n) in
+    let t2 = int_eq_refl (neg_ℤ (pos off)) in
     rw (ep, eo, t1, t2, here, em, en, later) refl
 
 -- a node is left
@@ -59,7 +60,7 @@ done_ok : (place : Place) (level p f o n : ℕ) (k : Kind) (b : ℕ) (cs : List 
     → done (at_node place level p f o) n (node_entry k b cs (pos 0)) k (greatest_of k) below
     ≡ Ok (record { nodes = node_at k f p b o (pos 0) ∷ below.nodes; bits = b; greatest = below.greatest })
 done_ok place level p f o n k b cs below eg eb most =
-    let t1 = int_same (pos b) in
+    let t1 = int_eq_refl (pos b) in
     let t2 = le-leb below.greatest 32767 most in
     rw (eg, eb, t1, t2) refl
 

@@ -6,8 +6,8 @@ use Rattle.std.specs.Ordering.{int_eq}
 use Rattle.frozen_model.specs.Trees.{Flag, Integer, I8, I16, I32, I64, greatest}
 use Rattle.frozen_model.specs.Values.{Value, Values, NoValue, And, nth}
 use Rattle.frozen_model.specs.Layouts.{in_range}
-use Rattle.typed_tree.specs.Parts.{items_of, fields_of}
-use Rattle.compact_codec.specs.Wire.{flag_in, number_in, bytes_in}
+use Rattle.typed_tree.specs.Parts.{bytes_in, items_of, fields_of}
+use Rattle.compact_codec.specs.Wire.{flag_in, number_in}
 use Rattle.layout_tree.specs.declared.node.NodeSpec.{NodeSpec}
 use Rattle.layout_tree.specs.declared.node.Kind.{Kind}
 use Rattle.layout_tree.specs.declared.node.Kind.TheVariants as kinds

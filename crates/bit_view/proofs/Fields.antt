@@ -15,15 +15,10 @@ use Rattle.layout_tree.proofs.Children.{Child, FieldsAt, struct_at, first_child,
 use Rattle.typed_tree.specs.Parts.{fields_of}
 use Rattle.bit_view.specs.Lying.{HasPart}
 use Rattle.bit_view.specs.InPlace.{read_value, read_fields}
-use Rattle.bit_view.specs.Branches.{fields_in, layout_nth}
+use Rattle.bit_view.specs.Branches.{fields_in, layout_nth, node_nth}
 use Rattle.bit_view.proofs.Places.{Here, part_of_part}
 
--- the node of the field at a place, where the first one's is i, and its first bit where the first one's is b
-abbrev pub node_nth : Layouts → ℕ → ℕ → ℕ
-node_nth NoField i j = i
-node_nth (Field f l ls) i zero = i
-node_nth (Field f l ls) i (suc j) = node_nth ls (i + nodes l) j
-
+-- the first bit of the field at a place, where the first one's is b
 abbrev pub bit_nth : Layouts → ℕ → ℕ → ℕ
 bit_nth NoField b j = b
 bit_nth (Field f l ls) b zero = b

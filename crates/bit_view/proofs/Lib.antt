@@ -8,4 +8,5 @@ pub mod Fields
 pub mod Offsets
 pub mod Seen
 pub mod Cursors
+pub mod FieldCursors
 pub mod Worked

@@ -25,8 +25,8 @@ use Rattle.layout_tree.proofs.Kin.{int_other, int_same}
 use Rattle.typed_tree.specs.Parts.{IsRecord, find_field, field_of, fields_of}
 use Rattle.typed_tree.specs.Fields.{id_number}
 use Rattle.bit_view.specs.InPlace.{read_value, read_fields}
-use Rattle.bit_view.specs.Branches.{fields_in, layout_nth, field_tree}
-use Rattle.bit_view.proofs.Fields.{node_nth, bit_nth}
+use Rattle.bit_view.specs.Branches.{fields_in, layout_nth, field_tree, node_nth}
+use Rattle.bit_view.proofs.Fields.{bit_nth}
 
 -- ---- ids
 
@@ -117,7 +117,7 @@ no_field bs (Field f l ls) block bit i n k b r h =
       tree = ap (λ b. if b then Some l else field_tree ls k) far ∙ rest.tree;
     }
 
-id_from_0 : (n : ℕ) → FitsSigned w16 (pos n) → id_number (pos n) ≡ n
+pub id_from_0 : (n : ℕ) → FitsSigned w16 (pos n) → id_number (pos n) ≡ n
 id_from_0 n f = grind (arith, ints)
 
 id_below_0 : (n : ℕ) → FitsSigned w16 (negsuc n) → 32767 < id_number (negsuc n)
@@ -174,12 +174,12 @@ with_field (Present v) id h = absurd cc
 -- ---- offsets
 
 -- the nodes before the field at a place
-abbrev skipped : Layouts → ℕ → ℕ
+abbrev pub skipped : Layouts → ℕ → ℕ
 skipped NoField j = 0
 skipped (Field f l ls) zero = 0
 skipped (Field f l ls) (suc j) = nodes l + skipped ls j
 
-skips : (ls : Layouts) (i j : ℕ) → node_nth ls i j ≡ i + skipped ls j
+pub skips : (ls : Layouts) (i j : ℕ) → node_nth ls i j ≡ i + skipped ls j
 skips NoField i j = omega arith
 skips (Field f l ls) i zero = omega arith
 skips (Field f l ls) i (suc j) = skips ls (i + nodes l) j

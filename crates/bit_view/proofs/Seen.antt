@@ -30,8 +30,8 @@ use Rattle.bit_view.specs.InPlace.{read_value, read_fields}
 use Rattle.bit_view.specs.Views.{value_of_view, layout_of_view, LiesAt}
 use Rattle.bit_view.proofs.Places.{Here, here_is, here_told, node_of, Bounds, bounds}
 use Rattle.bit_view.proofs.Ranges.{range_room, item_lies, inner_lies}
-use Rattle.bit_view.specs.Branches.{fields_in, layout_nth, field_tree}
-use Rattle.bit_view.proofs.Fields.{node_nth, bit_nth, told_nth, struct_told, field_lies}
+use Rattle.bit_view.specs.Branches.{fields_in, layout_nth, field_tree, node_nth}
+use Rattle.bit_view.proofs.Fields.{bit_nth, told_nth, struct_told, field_lies}
 use Rattle.bit_view.proofs.Fields.{field_child, first_node, first_bit, second_node, second_bit, count_all}
 use Rattle.bit_view.proofs.Offsets.{Sought, sought, some_found, none_found, RecordTold, record_told}
 use Rattle.bit_view.proofs.Offsets.{offset_is, bits_before}
@@ -240,7 +240,7 @@ formed w =
     let l = w.layouts.now in
     formed_part (part_told (version_of l.version) (view_node w)) (kept_described l).layout.kind_tree.formed
 
-rising_ids : (m : Layout) → IsFormed m → m ≡ Struct (fields_in m) → Rising 0 (ids_of (fields_in m))
+pub rising_ids : (m : Layout) → IsFormed m → m ≡ Struct (fields_in m) → Rising 0 (ids_of (fields_in m))
 rising_ids (Struct ls) h e = h.0
 rising_ids (Leaf k c) h e = absurd cc
 rising_ids (ByteRange t d c) h e = absurd cc

@@ -10,7 +10,7 @@ use Rattle.frozen_model.specs.Trees.{Whole, I8, I16, I32, I64, LeafKind, Flag, I
 use Rattle.frozen_model.specs.Trees.{ASet}
 use Rattle.frozen_model.specs.Trees.{AMap, Leaf, ByteRange, ItemRange, Optional, Struct, NoField, Field}
 use Rattle.frozen_model.specs.Trees.{IsFormed, value_bits}
-use Rattle.frozen_model.specs.Values.{Truth, Number, Value, One, Bytes, Absent, Present}
+use Rattle.frozen_model.specs.Values.{Truth, Number, Value, One, Bytes, Items, Absent, Present}
 use Rattle.frozen_model.specs.Values.{InBits, count, nth, Of, one, bytes, items, absent, present, record_of}
 use Rattle.frozen_model.specs.Layouts.{Version, Version1, Version2, Layout, Coded, FromBase, stride, width}
 use Rattle.frozen_model.specs.Layouts.{meaning, atom_of}
@@ -175,6 +175,11 @@ pair_told (Optional w l) bs block bit own at f h =
     absurd (no_map (nat_eq (field bs bit w) 1) (read_value bs l block (bit + w)) h)
 pair_told (Struct ls) bs block bit own at f h = absurd h
 
+-- what has an item has items
+pub counted_items : (v : Value) (i : ℕ) → i < count (items_of v) → IsItems v
+counted_items (Items h vs) i lt = tt
+counted_items v i lt = absurd (omega arith)
+
 pub items_holder : (m : Layout) (bs : List ℕ) (block bit : ℕ) → IsItems (read_value bs m block bit)
     → IsHolder m
 items_holder (ItemRange g d c l) bs block bit h = tt
@@ -271,7 +276,7 @@ text_of absent = omega arith
 text_of (present a) = omega arith
 text_of (record_of a b) = omega arith
 
-utf8_if : (b : Bool) → 1 ≤ (if b then 1 else 0) → b ≡ true
+pub utf8_if : (b : Bool) → 1 ≤ (if b then 1 else 0) → b ≡ true
 utf8_if true h = refl
 utf8_if false h = absurd (omega arith)
 

@@ -1,6 +1,6 @@
 -- The layouts of the parts of a layout.
-use Rattle.std.specs.Prelude.{ℕ, zero, suc, nat_eq, if◌then◌else◌, Option, Some, None}
-use Rattle.frozen_model.specs.Trees.{Tree, Trees, Optional, Struct, NoField, Field}
+use Rattle.std.specs.Prelude.{ℕ, zero, suc, ◌+◌, nat_eq, if◌then◌else◌, Option, Some, None}
+use Rattle.frozen_model.specs.Trees.{Tree, Trees, Optional, Struct, NoField, Field, nodes}
 use Rattle.frozen_model.specs.Layouts.{Layout, Layouts}
 
 -- the layout of what an optional has; of any other layout itself
@@ -23,3 +23,9 @@ layout_nth (Field f l ls) (suc j) = layout_nth ls j
 abbrev pub field_tree : {A B : Type 0} → Trees A B → ℕ → Option (Tree A B)
 field_tree NoField id = None
 field_tree (Field i l ls) id = if nat_eq i id then Some l else field_tree ls id
+
+-- the node of the field at a place, where the first one's is i
+abbrev pub node_nth : Layouts → ℕ → ℕ → ℕ
+node_nth NoField i j = i
+node_nth (Field f l ls) i zero = i
+node_nth (Field f l ls) i (suc j) = node_nth ls (i + nodes l) j

@@ -2,26 +2,28 @@
 
 ghost use Rattle.std.specs.Prelude.{◌≡◌, ◌≤◌};
 ghost use Rattle.frozen_model.specs.Values.{count};
-ghost use Rattle.typed_tree.specs.Parts.{IsItems, items_of};
+ghost use Rattle.typed_tree.specs.Parts.{items_of};
+ghost use Rattle.bit_view.specs.Rows.{view_of_row};
 ghost use Rattle.bit_view.specs.Views.{value_of_view};
 
+use crate::row::Row;
 use crate::view::View;
 
 /// The items of a list or a set, or the pairs of a map, in order.
 #[derive(Clone, Copy)]
 pub struct Items<'a> {
-    // Whose items they are.
-    whole: View<'a>,
+    // The items, by their places.
+    row: Row<'a>,
     // How many there are.
     len: u64,
     // The place of the next one.
     next: u64,
-    ghost items: { ∥ IsItems (value_of_view whole) ∥₁ },
-    ghost counted: { len ≡ count (items_of (value_of_view whole)) },
+    ghost counted: { len ≡ count (items_of (value_of_view (view_of_row row))) },
     ghost within: { next ≤ len },
 }
 
 impl<'a> Items<'a> {
+    ghost use Rattle.typed_tree.specs.Parts.{IsItems};
     ghost use Rattle.bit_view.specs.Cursor.{items_left, IsNext};
 
     /// The items of a list, a set or a map from the first on.
@@ -31,7 +33,7 @@ impl<'a> Items<'a> {
         ensures { items_left result ≡ items_of (value_of_view whole.entry) }
     {
         Items {
-            whole,
+            row: whole.row(),
             len: whole.len(),
             next: 0,
         }
@@ -45,7 +47,7 @@ impl<'a> Items<'a> {
         if self.next == self.len {
             return None;
         }
-        let item = self.whole.item(self.next);
+        let item = self.row.item(self.next);
         self.next += 1;
         Some(item)
     }

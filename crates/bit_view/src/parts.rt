@@ -7,9 +7,11 @@ ghost use Rattle.typed_tree.specs.Fields.{id_number};
 ghost use Rattle.typed_tree.specs.Parts.{IsItems, IsMap, IsRecord, IsPresent, items_of, fields_of, field_of};
 ghost use Rattle.bit_view.specs.Branches.{inner_of, fields_in, layout_nth, field_tree};
 ghost use Rattle.bit_view.specs.Cursor.{items_left};
+ghost use Rattle.bit_view.specs.Rows.{view_of_row};
 ghost use Rattle.bit_view.specs.Views.{value_of_view, layout_of_view, is_relaxed};
 
 use crate::items::Items;
+use crate::row::Row;
 use crate::view::View;
 
 impl<'a> View<'a> {
@@ -40,14 +42,7 @@ impl<'a> View<'a> {
         ensures layout { layout_of_view result ≡ item_of (layout_of_view self.entry) }
         ensures relaxed { is_relaxed result ≡ is_relaxed self.entry }
     {
-        let block = self.own_block();
-        View {
-            content: self.content,
-            layouts: self.layouts,
-            node: self.node + 3,
-            block,
-            bit: 8 * block + i * u64::from(self.layouts.stride(self.node)),
-        }
+        self.row().item(i)
     }
 
     /// The first field of a struct, or the key of a pair.
@@ -114,6 +109,15 @@ impl<'a> View<'a> {
         ensures relaxed { is_relaxed result ≡ is_relaxed self.entry }
     {
         self.field(id).unwrap()
+    }
+
+    /// The items of a list or a set, or the pairs of a map, by their places.
+    #[inline]
+    pub fn row(self) -> Row<'a>
+        requires { IsItems (value_of_view self) }
+        ensures { view_of_row result ≡ self.entry }
+    {
+        Row::of(self)
     }
 
     /// The items of a list or a set, or the pairs of a map, in order.

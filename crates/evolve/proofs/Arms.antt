@@ -49,10 +49,10 @@ stored_count l s e h =
     sym (ap (λ l. count (items_of (value_of_lens l))) e
     ∙ proj_count (type_of_ref s.ty) (value_of_view s.view) (stored_items l s e h))
 
-row_has_items : (v : Value) → IsRow v → IsItems v
+pub row_has_items : (v : Value) → IsRow v → IsItems v
 row_has_items v h = tag_items v (row_tag v h)
 
-map_has_items : (v : Value) → IsMap v → IsItems v
+pub map_has_items : (v : Value) → IsMap v → IsItems v
 map_has_items v h = tag_items v (map_tag v h)
 
 pub record RowAt (s : Stored) (i : ℕ) : Type 0 where

@@ -11,6 +11,7 @@ use Rattle.evolve.specs.declared.items.LensItem.{LensItem}
 use Rattle.evolve.specs.declared.items.LensItem.TheVariants as item
 use Rattle.evolve.specs.declared.items.LensItems.{LensItems}
 use Rattle.evolve.specs.Lenses.{type_of_lens, value_of_lens}
+use Rattle.evolve.specs.LensRows.{lens_of_row}
 
 -- the item of a list or a set, or the pair of a map
 abbrev pub value_of_item : LensItem → Value
@@ -19,11 +20,11 @@ value_of_item (item.Pair key value) = pair (value_of_lens key) (value_of_lens va
 
 -- the items that are left
 abbrev pub items_left : LensItems → Values
-items_left i = from_place (items_of (value_of_lens i.whole)) i.next
+items_left i = from_place (items_of (value_of_lens (lens_of_row i.row))) i.next
 
 -- the type of the list, set or map whose items they are
 abbrev pub type_left : LensItems → TypeTree
-type_left i = type_of_lens i.whole
+type_left i = type_of_lens (lens_of_row i.row)
 
 -- of the values that were left the first is given, and the others stay; where there was none, none is given
 abbrev pub IsNext : Values → Option LensItem → Values → Type 0

@@ -6,6 +6,7 @@ pub mod Costs
 pub mod Bound
 pub mod Written
 pub mod Lenses
+pub mod LensRows
 pub mod LensItems
 pub mod BindSteps
 pub mod Laws

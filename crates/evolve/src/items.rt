@@ -3,8 +3,10 @@ ghost use Rattle.std.specs.Prelude.{◌≡◌, ◌≤◌};
 ghost use Rattle.frozen_model.specs.Values.{count};
 ghost use Rattle.typed_tree.specs.Parts.{IsItems, items_of};
 ghost use Rattle.evolve.specs.Lenses.{value_of_lens};
+ghost use Rattle.evolve.specs.LensRows.{lens_of_row};
 
 use crate::lens::Lens;
+use crate::row::LensRow;
 use crate::scanning::item_at;
 
 /// An item of a list or a set, or the key and the value of a pair of a map.
@@ -19,14 +21,14 @@ pub enum LensItem<'a> {
 /// The items of a list or a set, or the pairs of a map, in order.
 #[derive(Clone, Copy)]
 pub struct LensItems<'a> {
-    // Whose items they are.
-    whole: Lens<'a>,
+    // The items, by their places.
+    row: LensRow<'a>,
     // How many there are.
     len: u64,
     // The place of the next one.
     next: u64,
-    ghost items: { ∥ IsItems (value_of_lens whole) ∥₁ },
-    ghost counted: { len ≡ count (items_of (value_of_lens whole)) },
+    ghost items: { ∥ IsItems (value_of_lens (lens_of_row row)) ∥₁ },
+    ghost counted: { len ≡ count (items_of (value_of_lens (lens_of_row row))) },
     ghost within: { next ≤ len },
 }
 
@@ -42,7 +44,7 @@ impl<'a> LensItems<'a> {
         ensures typed { type_left result ≡ type_of_lens whole.entry }
     {
         LensItems {
-            whole,
+            row: whole.row(),
             len: whole.len(),
             next: 0,
         }
@@ -59,6 +61,6 @@ impl<'a> LensItems<'a> {
         }
         let place = self.next;
         self.next += 1;
-        Some(item_at(self.whole, place))
+        Some(item_at(self.row, place))
     }
 }

@@ -11,6 +11,7 @@ mod parts;
 mod plan;
 mod reading;
 mod root;
+mod row;
 mod scanning;
 
 pub use binding::bind;
@@ -22,6 +23,7 @@ pub use laws::{
 pub use lens::{Lacked, Lens, Stored};
 pub use plan::Plan;
 pub use root::root_lens;
+pub use row::{LensRow, StoredRow};
 pub use scanning::scan;
 
 #[cfg(test)]

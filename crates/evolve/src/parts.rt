@@ -9,7 +9,7 @@ ghost use Rattle.idl_parse.specs.Refs.{field_of_ref, element_of, key_of, value_o
 ghost use Rattle.frozen_model.specs.Values.{Of, count, nth, key_of as first_of};
 ghost use Rattle.type_kinds.specs.KindsOf.{kinds_of};
 ghost use Rattle.type_kinds.specs.Accepted.{IsAccepted, HasShortTexts};
-ghost use Rattle.typed_tree.specs.Parts.{IsRow, IsMap, items_of, field_of};
+ghost use Rattle.typed_tree.specs.Parts.{IsItems, IsRow, IsMap, items_of, field_of};
 ghost use Rattle.typed_tree.specs.Sizes.{default_value};
 ghost use Rattle.typed_tree.specs.Spots.{pair};
 ghost use Rattle.bit_view.specs.Views.{value_of_view, layout_of_view, is_relaxed};
@@ -17,8 +17,10 @@ ghost use Rattle.evolve.specs.Binding.{Binds, BindsField};
 ghost use Rattle.evolve.specs.Parts.{held};
 ghost use Rattle.evolve.specs.Projection.{proj, found_or};
 ghost use Rattle.evolve.specs.Lenses.{type_of_lens, value_of_lens};
+ghost use Rattle.evolve.specs.LensRows.{lens_of_row};
 
 use crate::lens::{Lacked, Lens, Stored};
+use crate::row::LensRow;
 use bit_view::View;
 use thrift_idl::{FieldRef, Need};
 
@@ -64,23 +66,28 @@ fn stored<'a>(view: View<'a>, field: FieldRef<'a>) -> Option<Lens<'a>>
 }
 
 impl<'a> Lens<'a> {
+    /// The items of a list or a set, or the pairs of a map, by their places.
+    #[inline]
+    pub fn row(self) -> LensRow<'a>
+        requires { IsItems (value_of_lens self) }
+        ensures { lens_of_row result ≡ self.entry }
+    {
+        LensRow::of(self)
+    }
+
     /// An item of a list or a set, by its place from 0.
+    #[inline]
     pub fn item(self, i: u64) -> Lens<'a>
         requires row { IsRow (value_of_lens self) }
         requires there { i < count (items_of (value_of_lens self)) }
         ensures value { value_of_lens result ≡ nth (items_of (value_of_lens self.entry)) i }
         ensures typed { type_of_lens result ≡ element_of (type_of_lens self.entry) }
     {
-        match self {
-            Lens::Stored(stored) => Lens::Stored(Stored {
-                ty: stored.ty.element(),
-                view: stored.view.item(i),
-            }),
-            Lens::Default(_) => unreachable!(),
-        }
+        self.row().item(i)
     }
 
     /// The key and the value of a pair of a map, by its place from 0.
+    #[inline]
     pub fn entry(self, i: u64) -> (Lens<'a>, Lens<'a>)
         requires map { IsMap (value_of_lens self) }
         requires there { i < count (items_of (value_of_lens self)) }
@@ -89,38 +96,18 @@ impl<'a> Lens<'a> {
         ensures key { type_of_lens result.0 ≡ key_of (type_of_lens self.entry) }
         ensures typed { type_of_lens result.1 ≡ value_of (type_of_lens self.entry) }
     {
-        match self {
-            Lens::Stored(stored) => {
-                let pair = stored.view.item(i);
-                (
-                    Lens::Stored(Stored {
-                        ty: stored.ty.key(),
-                        view: pair.first(),
-                    }),
-                    Lens::Stored(Stored {
-                        ty: stored.ty.value(),
-                        view: pair.second(),
-                    }),
-                )
-            }
-            Lens::Default(_) => unreachable!(),
-        }
+        self.row().entry(i)
     }
 
     /// The key of a pair of a map, by its place from 0.
+    #[inline]
     pub fn key(self, i: u64) -> Lens<'a>
         requires map { IsMap (value_of_lens self) }
         requires there { i < count (items_of (value_of_lens self)) }
         ensures value { value_of_lens result ≡ first_of (nth (items_of (value_of_lens self.entry)) i) }
         ensures typed { type_of_lens result ≡ key_of (type_of_lens self.entry) }
     {
-        match self {
-            Lens::Stored(stored) => Lens::Stored(Stored {
-                ty: stored.ty.key(),
-                view: stored.view.item(i).first(),
-            }),
-            Lens::Default(_) => unreachable!(),
-        }
+        self.row().key(i)
     }
 
     /// A field of a struct. `None` where it is optional and not there.

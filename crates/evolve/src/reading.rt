@@ -62,6 +62,7 @@ impl<'a> Lens<'a> {
     }
 
     /// What the part's type is.
+    #[inline]
     pub fn kind(self) -> TypeKind
         ensures kind { result ≡ kind_of (type_of_lens self.entry) }
         ensures form { HasForm result (value_of_lens self.entry) }
@@ -70,6 +71,7 @@ impl<'a> Lens<'a> {
     }
 
     /// Whether a flag is set.
+    #[inline(always)]
     pub fn flag(self) -> bool
         requires { IsFlag (value_of_lens self) }
         ensures { value_of_lens self.entry ≡ One (Truth result) }
@@ -81,6 +83,7 @@ impl<'a> Lens<'a> {
     }
 
     /// A number, also of an enum.
+    #[inline(always)]
     pub fn int(self) -> i64
         requires { IsInt (value_of_lens self) }
         ensures { value_of_lens self.entry ≡ One (Number result) }
@@ -92,6 +95,7 @@ impl<'a> Lens<'a> {
     }
 
     /// A text, in the file or in the definition.
+    #[inline(always)]
     pub fn text(self) -> &'a str
         requires { IsText (value_of_lens self) }
         ensures { value_of_lens self.entry ≡ Bytes result.now }
@@ -103,6 +107,7 @@ impl<'a> Lens<'a> {
     }
 
     /// Bytes, or the UTF-8 of a text, in the file or in the definition.
+    #[inline(always)]
     pub fn bytes(self) -> &'a [u8]
         requires { IsBytes (value_of_lens self) }
         ensures { value_of_lens self.entry ≡ Bytes result.now }
@@ -114,6 +119,7 @@ impl<'a> Lens<'a> {
     }
 
     /// How many items a list or a set has, or pairs a map.
+    #[inline]
     pub fn len(self) -> u64
         requires { IsItems (value_of_lens self) }
         ensures { result ≡ count (items_of (value_of_lens self.entry)) }

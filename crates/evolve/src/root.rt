@@ -4,7 +4,6 @@ ghost use Rattle.idl_profile.specs.Types.{root_of};
 ghost use Rattle.idl_parse.specs.Parsed.{definition_of};
 ghost use Rattle.frozen_model.specs.Values.{Value};
 ghost use Rattle.frozen_laws.specs.Laws.{IsContent};
-ghost use Rattle.type_kinds.specs.Accepted.{HasShortTexts};
 ghost use Rattle.layout_tree.specs.Nodes.{layout_of};
 ghost use Rattle.evolve.specs.Bound.{IsBound};
 ghost use Rattle.evolve.specs.Projection.{proj};
@@ -20,7 +19,6 @@ use thrift_idl::Definition;
 /// no memory.
 pub fn root_lens<'a>(def: &'a Definition, opened: &'a Opened<'a>, plan: &Plan) -> Lens<'a>
     requires bound { IsBound (layout_of opened.now.layouts) (root_of (definition_of def.now)) (Ok plan.now) }
-    requires short { HasShortTexts (root_of (definition_of def.now)) }
     ensures value { (v : Value) → IsContent (layout_of opened.now.layouts).tree v opened.now.content.now
         → value_of_lens result ≡ proj (root_of (definition_of def.now)) v }
     ensures typed { type_of_lens result ≡ root_of (definition_of def.now) }

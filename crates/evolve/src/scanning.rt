@@ -3,10 +3,12 @@ ghost use Rattle.std.specs.Prelude.{◌≡◌, ◌<◌};
 ghost use Rattle.frozen_model.specs.Values.{count, nth};
 ghost use Rattle.typed_tree.specs.Parts.{IsItems, items_of};
 ghost use Rattle.evolve.specs.Lenses.{type_of_lens, value_of_lens};
+ghost use Rattle.evolve.specs.LensRows.{lens_of_row};
 ghost use Rattle.evolve.specs.LensItems.{items_left, type_left, value_of_item, IsItemOf};
 
 use crate::items::{LensItem, LensItems};
 use crate::lens::Lens;
+use crate::row::LensRow;
 use thrift_idl::TypeKind;
 
 /// The items of a list or a set, or the pairs of a map, from the first on. It takes no memory.
@@ -19,17 +21,18 @@ pub fn scan<'a>(from: Lens<'a>) -> LensItems<'a>
 }
 
 // An item by its place from 0: one part of a list or a set, and two of a map.
-pub(crate) fn item_at<'a>(whole: Lens<'a>, place: u64) -> LensItem<'a>
-    requires items { IsItems (value_of_lens whole) }
-    requires there { place < count (items_of (value_of_lens whole)) }
-    ensures value { value_of_item result ≡ nth (items_of (value_of_lens whole.entry)) place }
-    ensures form { IsItemOf (type_of_lens whole.entry) result }
+#[inline]
+pub(crate) fn item_at<'a>(row: LensRow<'a>, place: u64) -> LensItem<'a>
+    requires items { IsItems (value_of_lens (lens_of_row row)) }
+    requires there { place < count (items_of (value_of_lens (lens_of_row row))) }
+    ensures value { value_of_item result ≡ nth (items_of (value_of_lens (lens_of_row row.entry))) place }
+    ensures form { IsItemOf (type_of_lens (lens_of_row row.entry)) result }
 {
-    match whole.kind() {
+    match row.ty().kind() {
         TypeKind::Map => {
-            let (key, value) = whole.entry(place);
+            let (key, value) = row.entry(place);
             LensItem::Pair(key, value)
         }
-        _ => LensItem::One(whole.item(place)),
+        _ => LensItem::One(row.item(place)),
     }
 }

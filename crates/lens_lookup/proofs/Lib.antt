@@ -2,3 +2,4 @@ pub mod Finding
 pub mod KeyForms
 pub mod StepForms
 pub mod Reached
+pub mod FittedSteps

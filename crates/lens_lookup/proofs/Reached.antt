@@ -27,14 +27,14 @@ left_at steps i s l e =
     ap (map step_of) cut
 
 -- what is reached so far: the steps that are left lead from there to where all lead from the beginning
-pub record HasReached (steps : List Step) (i : ℕ) (from here : Lens) (old new : ℕ) : Type 0 where
-  pub leads : steps_to (left steps i) (type_of_lens here) ≡ steps_to (left steps 0) (type_of_lens from)
-  pub part : at (left steps i) (type_of_lens here) (value_of_lens here)
-      ≡ at (left steps 0) (type_of_lens from) (value_of_lens from)
-  pub cost : new + lookup_cost (left steps i) (type_of_lens here) (value_of_lens here)
-      ≤ old + lookup_cost (left steps 0) (type_of_lens from) (value_of_lens from)
+pub record HasReached (ss all : List PlacedStep) (from here : Lens) (old new : ℕ) : Type 0 where
+  pub leads : steps_to ss (type_of_lens here) ≡ steps_to all (type_of_lens from)
+  pub part : at ss (type_of_lens here) (value_of_lens here)
+      ≡ at all (type_of_lens from) (value_of_lens from)
+  pub cost : new + lookup_cost ss (type_of_lens here) (value_of_lens here)
+      ≤ old + lookup_cost all (type_of_lens from) (value_of_lens from)
 
-two_steps : (ss : List PlacedStep) (first : Result TypeTree PathFault)
+pub two_steps : (ss : List PlacedStep) (first : Result TypeTree PathFault)
     → IsOk (and_then first (λ t. steps_to ss t)) → (t : TypeTree) × (first ≡ Ok t)
 two_steps ss (Ok t) h = (t, refl)
 two_steps ss (Err f) h = absurd cc
@@ -51,22 +51,26 @@ led s ss here next ok e =
     ap (steps_to ss) same ∙ ap (λ r. and_then r (λ u. steps_to ss u)) (sym to.1)
 
 -- a step to a part
-pub stepped : (steps : List Step) (i : ℕ) (s : Step) (from here next : Lens) (old new more : ℕ)
-    → i < length steps → s ≡ get_or steps i s → IsOk (steps_to (left steps 0) (type_of_lens from))
-    → HasReached steps i from here old new
+pub one_step : (s : PlacedStep) (ss all : List PlacedStep) (from here next : Lens) (old new more : ℕ)
+    → IsOk (steps_to all (type_of_lens from)) → HasReached (s ∷ ss) all from here old new
+    → Some (typed_of_lens next) ≡ step_at s.step (type_of_lens here) (value_of_lens here)
+    → more ≤ new + step_cost s.step (value_of_lens here) → HasReached ss all from next old more
+one_step s ss all from here next old new more ok h p c =
+    let t = type_of_lens here in let v = value_of_lens here in
+    let spent =
+    ap (λ q. step_cost s.step v + option_map_or (λ x. lookup_cost ss x.type x.value) q 0) p in record {
+      leads = led s ss here next (subst IsOk (sym h.leads) ok) p ∙ h.leads;
+      part = ap (option_and_then (λ x. at ss x.type x.value)) p ∙ h.part;
+      cost = omega (arith, h.cost, c, spent);
+    }
+
+-- the same at a place of a list of steps
+pub stepped : (steps : List Step) (i : ℕ) (s : Step) (all : List PlacedStep) (from here next : Lens)
+    (old new more : ℕ) → i < length steps → s ≡ get_or steps i s → IsOk (steps_to all (type_of_lens from))
+    → HasReached (left steps i) all from here old new
     → Some (typed_of_lens next) ≡ step_at (step_of s).step (type_of_lens here) (value_of_lens here)
     → more ≤ new + step_cost (step_of s).step (value_of_lens here)
-    → HasReached steps (i + 1) from next old more
-stepped steps i s from here next old new more l e ok h p c =
-    let t = type_of_lens here in let v = value_of_lens here in
-    let ss = left steps (i + 1) in
-    let cut = left_at steps i s l e in
-    let leads = ap (λ z. steps_to z t) (sym cut) ∙ h.leads in
-    let part = ap (λ z. at z t v) (sym cut) ∙ h.part in
-    let spent =
-    ap (λ q. step_cost (step_of s).step v + option_map_or (λ x. lookup_cost ss x.type x.value) q 0) p in
-    let all = ap (λ z. lookup_cost z t v) cut in record {
-      leads = led (step_of s) ss here next (subst IsOk (sym leads) ok) p ∙ leads;
-      part = ap (option_and_then (λ x. at ss x.type x.value)) p ∙ part;
-      cost = omega (arith, h.cost, c, spent, all);
-    }
+    → HasReached (left steps (i + 1)) all from next old more
+stepped steps i s all from here next old new more l e ok h p c =
+    one_step (step_of s) (left steps (i + 1)) all from here next old new more ok
+    (subst (λ z. HasReached z all from here old new) (left_at steps i s l e) h) p c

@@ -3,3 +3,5 @@ pub mod Sought
 pub mod SoughtOrder
 pub mod KeySorts
 pub mod LensKeys
+pub mod FoundSteps
+pub mod FittedPaths

@@ -8,11 +8,12 @@ ghost use Rattle.type_kinds.specs.Accepted.{IsKeyType};
 ghost use Rattle.path_text.specs.Views.{key_of_literal};
 ghost use Rattle.key_order.specs.Keys.{value_of};
 ghost use Rattle.evolve.specs.Lenses.{type_of_lens, value_of_lens};
+ghost use Rattle.evolve.specs.LensRows.{lens_of_row};
 ghost use Rattle.lens_lookup.specs.KeySorts.{is_keyed, is_sort_of, key_type};
 ghost use Rattle.lens_lookup.specs.Sought.{SoughtKey, sought, value_of_key, keys_in, sought_cmp};
 ghost use Rattle.lens_lookup.specs.SoughtOrder.{sought_order};
 
-use evolve::Lens;
+use evolve::{Lens, LensRow};
 use fz_base::Steps;
 use key_lookup::Keys;
 use key_order::Key;
@@ -58,16 +59,16 @@ fn literal_key(literal: &KeyLit) -> Key<'_>
 // The items of a set, or the keys of a map, as keys to search in.
 #[derive(Clone, Copy)]
 pub(crate) struct LensKeys<'a> {
-    // Whose keys they are.
-    whole: Lens<'a>,
+    // The items or pairs, by their places.
+    row: LensRow<'a>,
     // How many there are.
     len: u64,
     // Whether it is a map; otherwise a set.
     map: bool,
     sort: KeySort,
-    ghost keyed: { is_keyed map (kind_of (type_of_lens whole)) ≡ true },
-    ghost counted: { len ≡ count (items_of (value_of_lens whole)) },
-    ghost sorted: { is_sort_of sort (kind_of (key_type map (type_of_lens whole))) ≡ true },
+    ghost keyed: { is_keyed map (kind_of (type_of_lens (lens_of_row row))) ≡ true },
+    ghost counted: { len ≡ count (items_of (value_of_lens (lens_of_row row))) },
+    ghost sorted: { is_sort_of sort (kind_of (key_type map (type_of_lens (lens_of_row row)))) ≡ true },
 }
 
 impl<'a> LensKeys<'a> {
@@ -80,7 +81,7 @@ impl<'a> LensKeys<'a> {
         ensures { values_searched result ≡ items_of (value_of_lens whole.entry) }
     {
         LensKeys {
-            whole,
+            row: whole.row(),
             len: whole.len(),
             map: false,
             sort: sort_of(whole.ty().element()),
@@ -93,7 +94,7 @@ impl<'a> LensKeys<'a> {
         ensures { values_searched result ≡ items_of (value_of_lens whole.entry) }
     {
         LensKeys {
-            whole,
+            row: whole.row(),
             len: whole.len(),
             map: true,
             sort: sort_of(whole.ty().key()),
@@ -101,19 +102,22 @@ impl<'a> LensKeys<'a> {
     }
 
     // Where a key stands.
+    #[inline(always)]
     fn part(&self, i: u64) -> Lens<'a>
         requires { i < count (values_searched self.now) }
         ensures value { value_of_lens result ≡ key_of (nth (values_searched self.now) i) }
-        ensures typed { type_of_lens result ≡ key_type self.now.map (type_of_lens self.now.whole) }
+        ensures typed { type_of_lens result
+            ≡ key_type self.now.map (type_of_lens (lens_of_row self.now.row)) }
     {
         if self.map {
-            self.whole.key(i)
+            self.row.key(i)
         } else {
-            self.whole.item(i)
+            self.row.item(i)
         }
     }
 
     // A key.
+    #[inline]
     fn key(&self, i: u64) -> Key<'a>
         requires { i < count (values_searched self.now) }
         ensures { value_of result ≡ key_of (nth (values_searched self.now) i) }
@@ -146,6 +150,9 @@ impl<L: Ledger> Keys<L> for LensKeys<'_> {
 
     fn compare(&self, i: u64, key: &KeyLit, steps: &mut Steps<L>) -> Ordering {
         steps.tick();
+        if let (KeySort::Number, KeyLit::Int(number)) = (self.sort, key) {
+            return self.part(i).int().cmp(number);
+        }
         self.key(i).cmp(&literal_key(key))
     }
 

@@ -1,8 +1,12 @@
 //! The part of a frozen file at a path, under a definition of one's own.
 #![tactic(auto)]
 
+mod fitted;
+mod fitting;
 mod keys;
 mod path;
 mod steps;
 
-pub use path::lookup;
+pub use fitted::FittedPath;
+pub use fitting::fit_path;
+pub use path::{lookup, lookup_fitted};

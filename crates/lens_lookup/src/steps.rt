@@ -1,12 +1,14 @@
 //! The part at one step of a path.
 ghost use Rattle.std.specs.Prelude.{◌≡◌, ◌+◌, ◌≤◌, option_map};
-ghost use Rattle.path_text.specs.Steps.{field_step, index_step, key_step};
+ghost use Rattle.path_text.specs.Steps.{PathStep, field_step, index_step, key_step};
 ghost use Rattle.path_text.specs.Views.{key_of_literal, step_of_kind};
 ghost use Rattle.evolve.specs.Costs.{step_cost};
 ghost use Rattle.evolve.specs.Lenses.{type_of_lens, value_of_lens};
 ghost use Rattle.evolve.specs.Parts.{step_at};
 ghost use Rattle.lens_lookup.specs.TypedParts.{typed_of_lens};
+ghost use Rattle.lens_lookup.specs.FoundSteps.{found_at, step_found, IsOwn};
 
+use crate::fitted::FittedStep;
 use crate::keys::LensKeys;
 use evolve::Lens;
 use fz_base::Steps;
@@ -85,5 +87,23 @@ pub(crate) fn part_at<'a, L: Ledger>(
         StepKind::Field(name) => part_in_field(from, name.as_str()),
         StepKind::Index(place) => part_at_index(from, *place),
         StepKind::Key(key) => part_at_key(from, key, steps),
+    }
+}
+
+/// The part at a fitted step that is of the lens's type. `None` where there is none.
+pub(crate) fn part_at_fitted<'a, L: Ledger>(
+    from: Lens<'a>,
+    step: FittedStep<'a>,
+    steps: &mut Steps<L>,
+) -> Option<Lens<'a>>
+    requires { IsOwn (type_of_lens from) step }
+    ensures part { (p : PathStep) → step_found step.entry ≡ found_at (type_of_lens from.entry) p
+        → option_map typed_of_lens result ≡ step_at p (type_of_lens from.entry) (value_of_lens from.entry) }
+    ensures cost { (p : PathStep) → step_found step.entry ≡ found_at (type_of_lens from.entry) p
+        → steps.new ≤ steps.old + step_cost p (value_of_lens from.entry) }
+{
+    match step {
+        FittedStep::Field(field) => from.part(field),
+        FittedStep::At(kind) => part_at(from, kind, steps),
     }
 }

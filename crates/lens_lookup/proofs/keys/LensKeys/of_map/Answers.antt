@@ -6,6 +6,11 @@ use Rattle.lens_lookup.specs.KeySorts.{is_keyed}
 use Rattle.lens_lookup.proofs.KeyForms.{lens_held, held_items, map_keys}
 use Rattle.lens_lookup.proofs.keys.LensKeys.of_map.Goals as goal
 
+pub row-requires : goal.row-requires
+row-requires c =
+    let l = c.args.whole in
+    held_items true (value_of_lens l) (lens_held true l (ap (is_keyed true) c.requires))
+
 pub len-requires : goal.len-requires
 len-requires c =
     let l = c.args.whole in

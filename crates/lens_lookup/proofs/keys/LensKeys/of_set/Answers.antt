@@ -6,6 +6,11 @@ use Rattle.lens_lookup.specs.KeySorts.{is_keyed}
 use Rattle.lens_lookup.proofs.KeyForms.{lens_held, held_items, set_keys}
 use Rattle.lens_lookup.proofs.keys.LensKeys.of_set.Goals as goal
 
+pub row-requires : goal.row-requires
+row-requires c =
+    let l = c.args.whole in
+    held_items false (value_of_lens l) (lens_held false l (ap (is_keyed false) c.requires))
+
 pub len-requires : goal.len-requires
 len-requires c =
     let l = c.args.whole in

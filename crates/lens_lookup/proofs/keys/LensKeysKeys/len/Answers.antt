@@ -1,3 +1,4 @@
+use Rattle.evolve.specs.LensRows.{lens_of_row}
 use Rattle.std.proofs.Common.{sym, ◌∙◌}
 use Rattle.lens_lookup.specs.LensKeys.{values_searched}
 use Rattle.lens_lookup.proofs.Finding.{keys_counted, keys_rise}
@@ -11,4 +12,5 @@ returns-clause-len g c =
 pub returns-clause-rising : goal.returns-clause-rising
 returns-clause-rising g c =
     let s = c.args.self.now in
-    keys_rise (holder s.map) (values_searched s) (no_list s.map) (lens_rises s.map s.whole s.keyed)
+    keys_rise (holder s.map) (values_searched s) (no_list s.map)
+    (lens_rises s.map (lens_of_row s.row) s.keyed)

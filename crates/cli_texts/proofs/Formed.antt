@@ -174,7 +174,7 @@ users_rise_first : (k : ℕ) → Rises AMap None (row (users 1 k))
 users_rise_first zero = tt
 users_rise_first (suc k) = (refl, users_rise 1 k)
 
-users_count : (i k : ℕ) → count (row (users i k)) ≡ k
+pub users_count : (i k : ℕ) → count (row (users i k)) ≡ k
 users_count i zero = refl
 users_count i (suc k) = ap suc (users_count (suc i) k)
 

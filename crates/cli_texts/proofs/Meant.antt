@@ -1,16 +1,9 @@
 -- The text of the demo's definition means it.
-use Rattle.std.proofs.Common.{◌≡◌, ◌≢◌, ℕ, zero, suc, ◌<◌, Bool, true, false, ◌&&◌, List}
-use Rattle.std.proofs.Common.{[], ◌∷◌, refl, sym, subst, arith}
-use Rattle.std.specs.Prelude.{ℤ, pos, codes, nat_lt}
+use Rattle.std.proofs.Common.{◌≡◌, ℕ, List, [], ◌∷◌, refl, sym, subst}
+use Rattle.std.specs.Prelude.{ℤ, pos, codes}
 use Rattle.std.specs.Fmt.{digits}
-use Rattle.std.specs.List.{list_all}
-use Rattle.std.specs.Ordering.{int_eq}
-use Rattle.std.specs.Str.{bytes_eq, IsUtf8, IsAscii}
-use Rattle.std.proofs.lemmas.Bool.{and_parts}
-use Rattle.std.proofs.lemmas.Bool.Decides.{Decides-int_eq, nat_tests}
-use Rattle.std.proofs.lemmas.Slice.Eq.{bytes_eq-Decides}
+use Rattle.std.specs.Str.{IsUtf8}
 use Rattle.std.proofs.lemmas.Str.{IsUtf8-from_ascii}
-use Rattle.idl_tokens.specs.Characters.{is_word_start, is_word_character}
 use Rattle.idl_tokens.specs.Tokens.{tokens}
 use Rattle.idl_grammar.specs.Grammar.{Spells}
 use Rattle.idl_profile.specs.declared.kinds.BaseType.TheVariants as base
@@ -24,11 +17,11 @@ use Rattle.idl_profile.specs.DefText.{DefTokens}
 use Rattle.idl_parse.specs.Parsed.{DefText}
 use Rattle.idl_print.specs.Printed.{printed}
 use Rattle.idl_print.specs.Written.{written}
-use Rattle.idl_print.proofs.Pieces.{IsWord, Every}
 use Rattle.idl_print.proofs.Proper.{IsName, IsProper, NamedFits}
 use Rattle.idl_print.proofs.SpelledText.{written-spelled}
 use Rattle.idl_print.proofs.SameText.{same-text}
 use Rattle.idl_print.proofs.PrintedLaw.{proper-tokens}
+use Rattle.layout_schema.proofs.SchemaText.{name, other, apart, ascii}
 use Rattle.cli_texts.specs.Demos.{demo_definition}
 
 -- ---- the two structs as they are meant
@@ -52,27 +45,6 @@ abbrev demo_meant : List m.MeantNamed
 demo_meant = meant_user ∷ meant_users ∷ []
 
 -- ---- names
-
-all_of : (w : List ℕ) → list_all is_word_character w ≡ true → Every is_word_character w
-all_of [] e = tt
-all_of (c ∷ w) e = let p = and_parts _ _ e in (p.0, all_of w p.1)
-
-abbrev is_word : List ℕ → Bool
-is_word [] = false
-is_word (c ∷ w) = is_word_start c && list_all is_word_character w
-
-word : (w : List ℕ) → is_word w ≡ true → IsWord w
-word [] e = absurd (let f : false ≡ true = e in cc)
-word (c ∷ w) e = let p = and_parts _ _ e in (p.0, all_of w p.1)
-
-name : (w : List ℕ) → is_word w ≡ true → is_name w ≡ true → IsName w
-name w e n = (word w e, n)
-
-other : (v w : List ℕ) → bytes_eq v w ≡ false → v ≢ w
-other v w e is = let t = (bytes_eq-Decides v w).1 is in cc
-
-apart : (i j : ℤ) (v w : List ℕ) → int_eq i j ≡ false → bytes_eq v w ≡ false → (i ≢ j) × (v ≢ w)
-apart i j v w ids names = (λ e. let t = (Decides-int_eq i j).1 e in cc, other v w names)
 
 user_names : IsName (codes "User") × IsName (codes "id") × IsName (codes "name") × IsName (codes "mail")
     × IsName (codes "tags") × IsName (codes "scores")
@@ -164,14 +136,6 @@ means =
       means = refl;
       root = refl;
     }
-
-below_128 : (b : ℕ) → nat_lt b 128 ≡ true → b < 128
-below_128 b e = grind (arith, nat_tests)
-
-ascii : (bs : List ℕ) → list_all (λ b. nat_lt b 128) bs ≡ true → IsAscii bs
-ascii [] e i = omega arith
-ascii (b ∷ bs) e zero = below_128 b (and_parts _ _ e).0
-ascii (b ∷ bs) e (suc i) = ascii bs (and_parts _ _ e).1 i
 
 text_is_utf8 : IsUtf8 (printed demo_definition)
 unfolding digits

@@ -1,21 +1,20 @@
 //! The definition of the demo, and its value.
-ghost use Rattle.std.specs.Prelude.{◌≡◌, ◌≢◌, ◌≤◌, ◌*◌, ◌++◌, ◌∷◌, [], OnOk, IfOk, AllPairs, length, map};
+ghost use Rattle.std.specs.Prelude.{◌≡◌, ◌≤◌, ◌++◌, ◌∷◌, [], OnOk, IfOk};
 ghost use Rattle.std.specs.Prelude.{string_bytes};
 ghost use Rattle.frozen_model.specs.Trees.{AList, AMap};
-ghost use Rattle.frozen_model.specs.Values.{Items, key_of, Of, cells, cell_limit};
+ghost use Rattle.frozen_model.specs.Values.{Items, Of, cells, cell_limit};
 ghost use Rattle.idl_profile.specs.Types.{root_of};
 ghost use Rattle.type_kinds.specs.KindsOf.{kinds_of};
-ghost use Rattle.key_order.specs.InOrder.{row, in_order};
-ghost use Rattle.key_order.specs.Keys.{AreOneKind};
-ghost use Rattle.typed_tree.specs.Parts.{pairs};
+ghost use Rattle.key_order.specs.InOrder.{row};
 ghost use Rattle.typed_tree.specs.References.{value_of_tree};
-ghost use Rattle.typed_tree.specs.Trees.{trees, last, but_last};
+ghost use Rattle.typed_tree.specs.Trees.{trees};
 ghost use Rattle.cli_texts.specs.Demos.{number, last_digit, six_digits, name, mail, tags, scores, user};
 ghost use Rattle.cli_texts.specs.Demos.{demo, demo_definition};
 
+use compact_codec::join_map;
 use std::alloc::{AllocError, Global};
 use std::string::String;
-use typed_tree::{Builder, TableFault, Tree};
+use typed_tree::{Builder, Tree};
 
 /// The definition of the demo's value.
 pub const DEMO_DEF: &str = "struct User {
@@ -53,21 +52,6 @@ fn push_six(out: &mut String, n: u32) -> Result<(), AllocError>
     push_digit(out, n / 10)?;
     push_digit(out, n)?;
     Ok(())
-}
-
-// Joins the last keys and values by turns into a map; the keys are of one kind and differ.
-fn join_map(builder: &mut Builder, n: u64) -> Result<(), AllocError>
-    requires there { 2 * n ≤ length (trees builder.old) }
-    requires kind { AreOneKind (map key_of (pairs (last (2 * n) (trees builder.old)))) }
-    requires differ { AllPairs (λ k l. k ≢ l) (map key_of (pairs (last (2 * n) (trees builder.old)))) }
-    ensures { OnOk result (trees builder.new ≡ but_last (2 * n) (trees builder.old)
-        ++ Items AMap (row (in_order (pairs (last (2 * n) (trees builder.old))))) ∷ []) }
-{
-    match builder.map(n) {
-        Ok(()) => Ok(()),
-        Err(TableFault::NoMemory) => Err(AllocError),
-        Err(TableFault::RepeatedKey { .. }) => unreachable!(),
-    }
 }
 
 // Each of these puts a part of a user on top; the text is a place for what is written.

@@ -5,7 +5,7 @@ use Rattle.frozen_model.specs.Values.{Value, Values, count, nth}
 use Rattle.serde_json.specs.Data.{Data}
 use Rattle.serde_json.specs.Written.{compact_text}
 use Rattle.json_line.specs.Json.{each_line}
-use Rattle.json_line.proofs.Rest.{from, from-next, from-end}
+use Rattle.typed_tree.proofs.Rest.{from, from-next, from-end}
 
 -- the lines from a place on
 abbrev pub lines_from : (Value → Data) → Values → ℕ → List ℕ

@@ -10,7 +10,8 @@ use Rattle.idl_parse.specs.Refs.{element_of, key_of, value_of}
 use Rattle.frozen_model.specs.Trees.{AList, ASet, AMap}
 use Rattle.frozen_model.specs.Values as is
 use Rattle.frozen_model.specs.Values.{Value}
-use Rattle.typed_tree.specs.Parts.{IsList, IsSet, IsMap, IsRow, IsItems, items_of, fields_of as values_in}
+use Rattle.typed_tree.specs.Parts.{IsList, IsSet, IsMap, IsRow, IsItems, bytes_in, items_of}
+use Rattle.typed_tree.specs.Parts.{fields_of as values_in}
 use Rattle.typed_tree.proofs.Typed.{size}
 use Rattle.typed_tree.proofs.Celled.{all_fields}
 use Rattle.hex.specs.Hex.{encode_lower}
@@ -18,7 +19,7 @@ use Rattle.serde_json.specs.Data.{Data, string, array, object}
 use Rattle.evolve.specs.declared.lens.Lens.{Lens}
 use Rattle.evolve.specs.Lenses.{type_of_lens, value_of_lens, HasForm}
 use Rattle.evolve.proofs.Known.{lens_form}
-use Rattle.json_line.specs.Json.{leaf, bytes_in, each, both, as_json, members, each_line, lines}
+use Rattle.json_line.specs.Json.{leaf, each, both, as_json, members, each_line, lines}
 
 -- the JSON of a value of a type of this kind
 abbrev pub json_by : TypeKind → TypeTree → Value → Data

@@ -1,19 +1,17 @@
 -- The parts of a value from a place on: what is written of them, and one part more.
-use Rattle.std.proofs.Common.{◌≡◌, ℕ, zero, suc, ◌+◌, ◌<◌, List, [], ◌∷◌, ◌++◌, length, Some, Bool, true}
-use Rattle.std.proofs.Common.{false, nat_lt, Result, Ok, Err, OnOk, is_ok, if◌then◌else◌, refl, sym, ap, ◌∙◌}
+use Rattle.std.proofs.Common.{◌≡◌, ℕ, suc, ◌+◌, ◌<◌, List, [], ◌∷◌, ◌++◌, length, Some, Bool, true}
+use Rattle.std.proofs.Common.{false, nat_lt, Result, Ok, Err, OnOk, is_ok, if◌then◌else◌, sym, ap, ◌∙◌}
 use Rattle.std.proofs.Common.{arith, append_assoc}
 use Rattle.std.proofs.lemmas.Bool.Decides.{nat_tests}
 use Rattle.std.specs.List.{slice_get}
-use Rattle.std.specs.Prelude.{ℤ}
-use Rattle.std.proofs.lemmas.Option.{slice_get_within, get_or_from_slice_get}
 use Rattle.json.specs.Print.{quoted}
-use Rattle.idl_profile.specs.declared.kinds.Need.{Need}
 use Rattle.idl_profile.specs.Types as types
 use Rattle.idl_profile.specs.Types.{TypeTree, DefField, field_list}
-use Rattle.frozen_model.specs.Values.{Value, Values, NoValue, And, count, nth}
+use Rattle.frozen_model.specs.Values.{Value, Values, count, nth}
 use Rattle.serde_json.specs.Data.{Data, Members, member, array, object}
 use Rattle.serde_json.specs.Written.{compact_text, comma_if, items_text, members_text}
 use Rattle.typed_tree.specs.Spots as spots
+use Rattle.typed_tree.proofs.Rest.{from, from-next, from-end, fields_from, fields-next, fields-end}
 use Rattle.json_line.specs.Json.{as_json, each, both, with_field, members}
 
 -- four texts behind one, and the rest
@@ -30,23 +28,6 @@ closes (Ok x) out z new pushed whole = whole pushed
 closes (Err e) out z new pushed whole = tt
 
 -- ---- items
-
--- the values from a place on
-abbrev pub from : Values → ℕ → Values
-from vs zero = vs
-from NoValue (suc i) = NoValue
-from (And v vs) (suc i) = from vs i
-
-pub from-next : (vs : Values) (i : ℕ) → i < count vs → from vs i ≡ And (nth vs i) (from vs (suc i))
-from-next NoValue i lt = absurd (omega (arith, lt))
-from-next (And v vs) zero lt = refl
-from-next (And v vs) (suc i) lt = from-next vs i (omega (arith, lt))
-
-pub from-end : (vs : Values) (i : ℕ) → i ≡ count vs → from vs i ≡ NoValue
-from-end NoValue zero e = refl
-from-end NoValue (suc i) e = refl
-from-end (And v vs) zero e = absurd (omega (arith, e))
-from-end (And v vs) (suc i) e = from-end vs i (omega (arith, e))
 
 -- what the items from a place on are written as, with the closing bracket
 abbrev pub items_from : (Value → Data) → Values → ℕ → List ℕ
@@ -93,30 +74,6 @@ pair-written f g p k v old a b c d new at begun first comma second ended =
     ∙ in-turn old (91 ∷ []) x (44 ∷ []) y (93 ∷ []) ∙ ap (λ q. old ++ compact_text (both f g q)) (sym at)
 
 -- ---- fields
-
--- the fields from a place on
-abbrev pub fields_from : types.Fields → ℕ → types.Fields
-fields_from fs zero = fs
-fields_from types.no_fields (suc i) = types.no_fields
-fields_from (types.field id w n t d fs) (suc i) = fields_from fs i
-
-abbrev as_field : ℤ → List ℕ → Need → TypeTree → types.Default → DefField
-as_field i w n t d = record { id = i; name = w; need = n; type = t; default = d }
-
-fields-next : (fs : types.Fields) (i : ℕ) (f : DefField) → slice_get (field_list fs) i ≡ Some f
-    → fields_from fs i ≡ types.field f.id f.name f.need f.type f.default (fields_from fs (suc i))
-fields-next types.no_fields i f e = absurd (omega (arith, slice_get_within [] i f e))
-fields-next (types.field id w n t d fs) zero f e =
-    let same : as_field id w n t d ≡ f = get_or_from_slice_get (as_field id w n t d
-    ∷ field_list fs) 0 f f e in
-    ap (λ (g : DefField). types.field g.id g.name g.need g.type g.default fs) same
-fields-next (types.field id w n t d fs) (suc i) f e = fields-next fs i f e
-
-fields-end : (fs : types.Fields) (i : ℕ) → i ≡ length (field_list fs) → fields_from fs i ≡ types.no_fields
-fields-end types.no_fields zero e = refl
-fields-end types.no_fields (suc i) e = refl
-fields-end (types.field id w n t d fs) zero e = absurd (omega (arith, e))
-fields-end (types.field id w n t d fs) (suc i) e = fields-end fs i (omega (arith, e))
 
 -- what the fields from a place on are written as, with the closing bracket
 abbrev pub members_from : Bool → types.Fields → Values → ℕ → List ℕ

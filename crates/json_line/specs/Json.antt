@@ -8,8 +8,8 @@ use Rattle.idl_profile.specs.declared.kinds.Need.{Need}
 use Rattle.idl_profile.specs.declared.kinds.Need.TheVariants.{Plain, Required, Optional}
 use Rattle.idl_profile.specs.Types.{TypeTree, scalar, text, bytes, list_of, set_of, map_of, named}
 use Rattle.idl_profile.specs.Types.{Named, enum_of, struct_of, Fields, field}
-use Rattle.frozen_model.specs.Values.{Value, Truth, Number, One, Bytes, Present, Values, NoValue, And, nth}
-use Rattle.typed_tree.specs.Parts.{items_of, fields_of}
+use Rattle.frozen_model.specs.Values.{Value, Truth, Number, One, Present, Values, NoValue, And, nth}
+use Rattle.typed_tree.specs.Parts.{bytes_in, items_of, fields_of}
 
 -- a flag is a boolean, and a number a whole number
 abbrev pub leaf : Value → Data
@@ -17,11 +17,6 @@ leaf (One (Truth b)) = boolean b
 leaf (One (Number (pos n))) = number (unsigned n)
 leaf (One (Number (negsuc n))) = number (negative (negsuc n))
 leaf _ = null
-
--- the bytes of a text or of bytes; no other value has any
-abbrev pub bytes_in : Value → List ℕ
-bytes_in (Bytes bs) = bs
-bytes_in _ = []
 
 abbrev pub each : (Value → Data) → Values → Items
 each f NoValue = no_items

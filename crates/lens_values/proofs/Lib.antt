@@ -1,5 +1,4 @@
 pub mod FlatTypes
 pub mod LensParts
 pub mod KeyRanks
-pub mod PutRows
 pub mod PutStructs

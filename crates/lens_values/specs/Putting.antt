@@ -1,24 +1,11 @@
--- What stands on a builder's stack once the parts of a value are put.
-use Rattle.std.specs.Prelude.{◌≡◌, ℕ, ◌*◌, List, [], ◌∷◌, ◌++◌, length, take, Option, Some, None}
+-- What is put on a builder's stack for a field.
+use Rattle.std.specs.Prelude.{Option, Some, None}
 use Rattle.idl_profile.specs.declared.kinds.Need.{Need}
 use Rattle.idl_profile.specs.declared.kinds.Need.TheVariants.{Optional}
-use Rattle.frozen_model.specs.Values.{Value, Values, Absent, Present, NoValue, And}
-use Rattle.typed_tree.specs.Parts.{pairs}
-
--- items or fields, the first one first
-abbrev pub listed : Values → List Value
-listed NoValue = []
-listed (And v vs) = v ∷ listed vs
+use Rattle.frozen_model.specs.Values.{Value, Absent, Present}
 
 -- what a field of this need is where it has this, or nothing
 abbrev pub field_from : Need → Option Value → Value
 field_from need None = Absent
 field_from Optional (Some v) = Present v
 field_from need (Some v) = v
-
--- keys and values were put by turns, and are the first n of these pairs
-pub record PutPairs (old new : List Value) (vs : Values) (n : ℕ) : Type 0 where
-  pub turns : List Value
-  pub put : new ≡ old ++ turns
-  pub paired : pairs turns ≡ take n (listed vs)
-  pub long : length turns ≡ 2 * n

@@ -6,9 +6,11 @@ ghost use Rattle.frozen_model.specs.Values.{count};
 ghost use Rattle.typed_tree.specs.Parts.{items_of, fields_of as values_in};
 ghost use Rattle.typed_tree.specs.Trees.{trees};
 ghost use Rattle.evolve.specs.Lenses.{type_of_lens, value_of_lens};
-ghost use Rattle.lens_values.specs.Putting.{listed, field_from, PutPairs};
+ghost use Rattle.file_value.specs.Putting.{listed, PutPairs};
+ghost use Rattle.lens_values.specs.Putting.{field_from};
 
-use crate::joining::{join_map, join_set, wrap};
+use crate::joining::wrap;
+use compact_codec::{join_map, join_set};
 use evolve::Lens;
 use std::alloc::AllocError;
 use thrift_idl::{FieldRef, TypeKind};

@@ -19,13 +19,14 @@ use Rattle.typed_tree.proofs.Forms.{row_is, map_is}
 use Rattle.typed_tree.proofs.Typed.{size, field-smaller}
 use Rattle.evolve.specs.Lenses.{type_of_lens, value_of_lens, HasForm}
 use Rattle.evolve.proofs.Known.{lens_form}
-use Rattle.lens_values.specs.Putting.{listed}
+use Rattle.file_value.specs.Putting.{listed}
+use Rattle.file_value.proofs.Rows.{length_listed}
+use Rattle.file_value.proofs.PutRows.{joined, last_put, enough, one_more, next_listed, all_listed, list_is}
+use Rattle.file_value.proofs.PutRows.{pair_put, all_paired, on_ok}
+use Rattle.file_value.proofs.Records.{tail_ids}
 use Rattle.lens_values.proofs.LensParts.{lens_row, lens_map, map_size, lens_struct}
-use Rattle.lens_values.proofs.KeyRanks.{length_listed, set_keys, map_keys}
-use Rattle.lens_values.proofs.PutRows.{joined, last_put, enough, one_more, next_listed, all_listed, list_is}
-use Rattle.lens_values.proofs.PutRows.{pair_put}
-use Rattle.lens_values.proofs.PutRows.{all_paired, on_ok}
-use Rattle.lens_values.proofs.PutStructs.{part_is, next_id, tail_ids, struct_parts}
+use Rattle.lens_values.proofs.KeyRanks.{set_keys, map_keys}
+use Rattle.lens_values.proofs.PutStructs.{part_is, next_id, struct_parts}
 use Rattle.lens_values.proofs.putting.+put.Goals as goal
 
 -- ---- items

@@ -6,7 +6,7 @@ use Rattle.typed_tree.specs.Parts.{items_of, fields_of as values_in}
 use Rattle.typed_tree.specs.Trees.{trees}
 use Rattle.typed_tree.proofs.Typed.{size}
 use Rattle.evolve.specs.Lenses.{type_of_lens, value_of_lens}
-use Rattle.lens_values.specs.Putting.{listed, PutPairs}
+use Rattle.file_value.specs.Putting.{listed, PutPairs}
 use Rattle.lens_values.proofs.putting.+put.Given as goal
 
 abbrev pub decreases-put : goal.decreases-put

@@ -12,8 +12,9 @@ use Rattle.typed_tree.specs.Parts.{IsList, items_of, pairs}
 use Rattle.typed_tree.specs.Spots.{pair}
 use Rattle.typed_tree.specs.Trees.{last, but_last}
 use Rattle.compact_codec.proofs.Joins.{last_is, front_is}
-use Rattle.lens_values.specs.Putting.{listed, PutPairs}
-use Rattle.lens_values.proofs.KeyRanks.{row_listed, length_listed, listed_at}
+use Rattle.compact_codec.proofs.Listed.{row-listed}
+use Rattle.file_value.specs.Putting.{listed, PutPairs}
+use Rattle.file_value.proofs.Rows.{length_listed, listed_at}
 
 -- the last trees joined
 pub joined : (make : List Value → Value) (old ts us new : List Value) (n : ℕ) (v : Value) → length ts ≡ n
@@ -53,7 +54,7 @@ all_listed vs old us i all e =
     e ∙ ap (λ n. old ++ take n (listed vs)) long ∙ ap (λ zs. old ++ zs) (take-length (listed vs))
 
 pub list_is : (v : Value) → IsList v → Items AList (row (listed (items_of v))) ≡ v
-list_is (Items AList vs) h = ap (Items AList) (row_listed vs)
+list_is (Items AList vs) h = ap (Items AList) (row-listed vs)
 list_is v h = absurd h
 
 -- ---- pairs
@@ -97,3 +98,9 @@ all_paired vs old new h =
 pub on_ok : {T E : Type 0} {P Q : Type 0} (r : Result T E) → OnOk r P → (P → Q) → OnOk r Q
 on_ok (Ok x) p f = f p
 on_ok (Err e) p f = p
+
+-- the one tree on a stack is the one that was put
+pub only_tree : (old us : List Value) (u v : Value) → us ≡ u ∷ [] → us ≡ old ++ v ∷ [] → old ≡ [] → u ≡ v
+only_tree old us u v e put empty =
+    let same : u ∷ [] ≡ v ∷ [] = sym e ∙ put ∙ ap (λ zs. zs ++ v ∷ []) empty in
+    cc

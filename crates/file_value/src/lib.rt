@@ -1,0 +1,10 @@
+//! The value of an opened file, as a whole: a tree of `typed_tree`.
+#![tactic(auto)]
+
+mod putting;
+mod whole;
+
+pub use whole::value_of;
+
+#[cfg(test)]
+mod tests;

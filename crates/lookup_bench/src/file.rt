@@ -1,9 +1,7 @@
 //! The demo's definition, and the frozen file of its users.
 
 ghost use Rattle.std.specs.Prelude.{◌≡◌, ◌≤◌, IfOk};
-ghost use Rattle.idl_profile.specs.Types.{root_of};
 ghost use Rattle.idl_parse.specs.Parsed.{definition_of};
-ghost use Rattle.type_kinds.specs.Accepted.{HasShortTexts};
 ghost use Rattle.cli_texts.specs.Demos.{demo_definition};
 
 use crate::trouble::Trouble;
@@ -15,8 +13,7 @@ use thrift_idl::{Definition, parse};
 
 /// The definition of the demo.
 pub(crate) fn definition(alloc: Global) -> Result<Definition, Trouble>
-    ensures demo { IfOk result (λ d. definition_of d ≡ demo_definition) }
-    ensures short { IfOk result (λ d. HasShortTexts (root_of (definition_of d))) }
+    ensures { IfOk result (λ d. definition_of d ≡ demo_definition) }
 {
     demo_def_means_the_demo();
     let text = DEMO_DEF.as_bytes();

@@ -1,48 +1,18 @@
 //! Lookups of the numbers of users by their keys.
 
-ghost use Rattle.std.specs.Prelude.{◌≡◌, ◌≤◌, IfOk};
+ghost use Rattle.std.specs.Prelude.{◌≡◌, ◌≤◌};
 ghost use Rattle.idl_profile.specs.Types.{root_of};
 ghost use Rattle.evolve.specs.Lenses.{type_of_lens};
 ghost use Rattle.cli_texts.specs.Demos.{demo_definition};
-ghost use Rattle.path_text.specs.Steps.{field_step as field_step_of};
-ghost use Rattle.path_text.specs.Views.{step_of_kind};
-ghost use Rattle.lookup_bench.specs.Paths.{IsIdPath};
+ghost use Rattle.demo_table.specs.Paths.{IsIdPath};
 
 use evolve::Lens;
 use fz_base::Steps;
 use lens_lookup::lookup;
-use path_text::{KeyLit, Path, Step, StepKind};
-use std::alloc::{AllocError, Global};
+use path_text::{KeyLit, Path, StepKind};
 use std::marker::Brand;
-use std::string::String;
 use std::sync::ledger::{Blank, Ledger};
 use thrift_idl::TypeKind;
-
-/// A step to the field of a name.
-fn field_step(alloc: Global, place: u64, name: &str) -> Result<Step, AllocError>
-    ensures { IfOk result (λ s. step_of_kind s.kind ≡ field_step_of name.now) }
-{
-    let mut text = String::new(alloc);
-    text.push_str(name)?;
-    Ok(Step {
-        place,
-        kind: StepKind::Field(text),
-    })
-}
-
-/// The path `.users{1}.id`.
-pub(crate) fn id_path(alloc: Global) -> Result<Path, AllocError>
-    ensures { IfOk result IsIdPath }
-{
-    let mut steps = Vec::with_capacity(alloc, 3)?;
-    steps.push(field_step(alloc, 0, "users")?)?;
-    steps.push(Step {
-        place: 6,
-        kind: StepKind::Key(KeyLit::Int(1)),
-    })?;
-    steps.push(field_step(alloc, 9, "id")?)?;
-    Ok(Path { steps, len: 12 })
-}
 
 /// The number of the user with a key, or 0 where there is none.
 fn id_at<L: Ledger>(root: Lens<'_>, path: &mut Path, key: u32, steps: &mut Steps<L>) -> i64

@@ -7,7 +7,6 @@ ghost use Rattle.idl_profile.specs.Types.{root_of};
 ghost use Rattle.idl_parse.specs.Parsed.{definition_of};
 ghost use Rattle.evolve.specs.Lenses.{type_of_lens};
 ghost use Rattle.cli_texts.specs.Demos.{demo_definition};
-ghost use Rattle.type_kinds.specs.Accepted.{HasShortTexts};
 
 mod file;
 mod lookups;
@@ -16,10 +15,11 @@ mod timing;
 mod trouble;
 
 use crate::file::{definition, users_file};
-use crate::lookups::{id_path, lookups};
+use crate::lookups::lookups;
 use crate::scans::{lines, users};
 use crate::timing::{ROUNDS, nanoseconds, speed};
 use crate::trouble::Trouble;
+use demo_table::id_path;
 use evolve::{Lens, bind, root_lens};
 use file_check::{Opened, open_frozen};
 use std::env;
@@ -112,8 +112,7 @@ fn print_opened(
     def: &Definition,
     opened: &Opened<'_>,
 ) -> Result<(), Trouble>
-    requires demo { definition_of def.now ≡ demo_definition }
-    requires short { HasShortTexts (root_of (definition_of def.now)) }
+    requires { definition_of def.now ≡ demo_definition }
 {
     let plan = bind(rt.alloc(), def, opened)?;
     let root = root_lens(def, opened, &plan);

@@ -1,4 +1,4 @@
-use Rattle.lookup_bench.specs.Paths.{IsIdPath}
+use Rattle.demo_table.specs.Paths.{IsIdPath}
 use Rattle.lookup_bench.proofs.print_lookups.Given as goal
 
 abbrev pub invariant-loop : goal.invariant-loop

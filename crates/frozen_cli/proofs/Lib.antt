@@ -1,7 +1,6 @@
 pub mod Clauses
 pub mod Dotted
 pub mod Joins
+pub mod Rows
 pub mod Leading
-pub mod Fronts
-pub mod Frozen
 pub mod Contents

@@ -2,7 +2,6 @@ pub mod Refusal
 pub mod Stages
 pub mod Changes
 pub mod Opened
-pub mod FrozenFile
 pub mod Reply
 pub mod Run
 pub mod Words

@@ -1,10 +1,12 @@
 -- What the program answers to words and files: stage after stage, the first refusal, or else the output.
 use Rattle.std.specs.Prelude.{◌≡◌, ◌⊎◌, ◌<◌, ◌≤◌, ◌^◌, ℕ, List, [], ◌∷◌, ◌++◌}
-use Rattle.std.specs.Prelude.{codes, if◌then◌else◌, None, Some, Option, Result, Ok, Err}
+use Rattle.std.specs.Prelude.{codes, if◌then◌else◌, None, Some, Option, Result, Ok, Err, option_map, length, ◌&&◌}
+use Rattle.std.specs.Prelude.{nat_le}
+use Rattle.std.specs.Str.Parse.{digits_value}
 use Rattle.std.specs.Prelude.{String, string_bytes}
 use Rattle.std.specs.Global.{Global}
 use Rattle.std.specs.Fmt.{decimal}
-use Rattle.std.specs.Str.{bytes_eq}
+use Rattle.std.specs.Str.{bytes_eq, all_ascii_digits}
 use Rattle.fz_base.specs.Files.{Held}
 use Rattle.frozen_cli.specs.declared.refusal.Role.TheVariants.{Definition, Value as ValueRole}
 use Rattle.frozen_cli.specs.declared.refusal.Role.TheVariants.{File as FileRole}
@@ -44,7 +46,9 @@ use Rattle.evolve.specs.Binding.{Compatible, Unbound, type_changed, required_abs
 use Rattle.evolve.specs.Projection.{proj}
 use Rattle.evolve.specs.Parts.{at}
 use Rattle.json_line.specs.Json.{line, lines}
-use Rattle.frozen_cli.specs.FrozenFile.{IsFrozenFile}
+use Rattle.frozen_file.specs.FrozenFile.{IsFrozenFile, IsRefrozenFile}
+use Rattle.demo_table.specs.declared.figures.DemoFigures.{DemoFigures}
+use Rattle.demo_table.specs.Demo.{IsDemo, demo_text}
 
 -- ---- words
 
@@ -56,13 +60,24 @@ pub data Form : Type 0 where
   thaw : List ℕ → List ℕ → Form
   check : List ℕ → List ℕ → Form
   layout : List ℕ → Form
+  upgrade : List ℕ → Form
   print : List ℕ → Form
+  -- of so many rows
+  demo : ℕ → Form
+
+-- the number of rows that a word of one to six decimal digits spells, from 1 to 100,000
+abbrev pub row_count : List ℕ → Option ℕ
+row_count word =
+    if all_ascii_digits word && nat_le (length word) 6 && nat_le 1 (digits_value 10 word)
+    && nat_le (digits_value 10 word) 100000 then Some (digits_value 10 word) else None
 
 -- the form of a command and a word, of a command and two, and of a command and three
 abbrev pub form_of_one : List ℕ → List ℕ → Option Form
 form_of_one command word =
     if bytes_eq command (codes "print") then Some (print word)
-    else (if bytes_eq command (codes "layout") then Some (layout word) else None)
+    else (if bytes_eq command (codes "layout") then Some (layout word)
+    else (if bytes_eq command (codes "upgrade") then Some (upgrade word)
+    else (if bytes_eq command (codes "demo") then option_map demo (row_count word) else None)))
 
 abbrev pub form_of_two : List ℕ → List ℕ → List ℕ → Option Form
 form_of_two command def word =
@@ -167,6 +182,16 @@ abbrev pub Freezes : List Named → Value → Result (List ℕ) Refusal → Type
 Freezes d v (Ok out) = IsFrozenFile d v out
 Freezes d v (Err r) = ⊥
 
+-- the frozen file of the value in the least layout of version 2 of the same kinds as the file's
+abbrev pub Upgrades : Described × Value → Result (List ℕ) Refusal → Type 0
+Upgrades f (Ok out) = IsRefrozenFile f.0.tree f.1 out
+Upgrades f (Err r) = ⊥
+
+-- the line of a demo of so many rows, in which each lookup found its row
+abbrev pub Demonstrates : ℕ → Result (List ℕ) Refusal → Type 0
+Demonstrates n (Ok out) = (d : DemoFigures) × IsDemo n d × (out ≡ demo_text d)
+Demonstrates n (Err r) = ⊥
+
 -- a value of a type in its canonical spelling, within the limit of cells
 abbrev pub Thaws : TypeTree → Value → Result (List ℕ) Refusal → Type 0
 Thaws t v = ThenStage (CellsStage t v) (λ w. Writes (canon (wire t w)))
@@ -260,6 +285,14 @@ ListingOf bytes = ThenStage (FileStage bytes) (λ f. Writes (listing f.0))
 abbrev pub LayoutGives : Held → List ℕ → Result (List ℕ) Refusal → Type 0
 LayoutGives held file = ThenStage (ReadStage FileRole (2 ^ 30) (held file)) ListingOf
 
+-- the upgraded file of a file, from its bytes
+abbrev pub UpgradeOf : List ℕ → Result (List ℕ) Refusal → Type 0
+UpgradeOf bytes = ThenStage (FileStage bytes) Upgrades
+
+-- what `upgrade` gives
+abbrev pub UpgradeGives : Held → List ℕ → Result (List ℕ) Refusal → Type 0
+UpgradeGives held file = ThenStage (ReadStage FileRole (2 ^ 30) (held file)) UpgradeOf
+
 -- what `print` gives
 abbrev pub PrintGives : Held → List ℕ → Result (List ℕ) Refusal → Type 0
 PrintGives held def = ThenStage (DefinitionIn (held def)) (λ d. Writes (printed d))
@@ -271,7 +304,9 @@ FormGives held (show showing def file path) = ShowGives showing held def file pa
 FormGives held (thaw def file) = WantedIn whole held def file
 FormGives held (check def file) = WantedIn sizes held def file
 FormGives held (layout file) = LayoutGives held file
+FormGives held (upgrade file) = UpgradeGives held file
 FormGives held (print def) = PrintGives held def
+FormGives held (demo n) = Demonstrates n
 
 -- the first refusal, or else the output
 abbrev pub CommandGives : List (List ℕ) → Held → Result (List ℕ) Refusal → Type 0

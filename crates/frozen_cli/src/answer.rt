@@ -18,7 +18,8 @@ ghost use Rattle.frozen_cli.specs.Stages.{StageGives, HeldStageGives};
 ghost use Rattle.frozen_cli.specs.Changes.{seen, ReadsFiles};
 ghost use Rattle.frozen_cli.specs.Reply.{DefinitionIn, ValueIn, FrozenUnder, FreezeGives};
 ghost use Rattle.frozen_cli.specs.Reply.{leads_to, ShowsValue, ShowsAt, ShowsPart, Thaws, Under, OpenedUnder};
-ghost use Rattle.frozen_cli.specs.Reply.{FileUnder, WantedIn, ShowGives, ListingOf, LayoutGives, PrintGives};
+ghost use Rattle.frozen_cli.specs.Reply.{FileUnder, WantedIn, ShowGives, ListingOf, LayoutGives};
+ghost use Rattle.frozen_cli.specs.Reply.{UpgradeOf, UpgradeGives, PrintGives};
 ghost use Rattle.frozen_cli.specs.Reply.{CommandGives};
 ghost use Rattle.frozen_cli.specs.Words.{wanted_in};
 
@@ -277,6 +278,27 @@ fn layout<F: Files>(alloc: Global, files: &mut F, file: &str) -> Result<Vec<u8>,
     listing_of(alloc, &bytes)
 }
 
+/// The file of the value of a frozen file, from the file's bytes, in its least layout of version 2.
+fn upgraded_of(alloc: Global, bytes: &[u8]) -> Result<Vec<u8>, Failure>
+    requires { length bytes.now < 2 ^ 56 }
+    ensures gives { StageGives (λ out. out.items) (UpgradeOf bytes.now) result }
+    ensures no_file { IsErrAnd result (IsRefused IsReading) → ⊥ }
+{
+    let opened = stages::file(alloc, bytes)?;
+    let value = stages::value_held(alloc, &opened)?;
+    stages::refrozen(alloc, &opened, &value)
+}
+
+/// The file of the value of a frozen file in its least layout of version 2.
+fn upgrade<F: Files>(alloc: Global, files: &mut F, file: &str) -> Result<Vec<u8>, Failure>
+    ensures gives { HeldStageGives (F.held files.old) (λ out. out.items)
+        (λ held. UpgradeGives held file.now) result }
+    ensures reads { ReadsFiles (seen F.held F.misses F.faults files.old files.new) result }
+{
+    let bytes = read_role(alloc, files, Role::File, file, MAX_FILE)?;
+    upgraded_of(alloc, &bytes)
+}
+
 /// The text of the definition in a named file.
 fn print_definition<F: Files>(alloc: Global, files: &mut F, def: &str) -> Result<Vec<u8>, Failure>
     ensures gives { HeldStageGives (F.held files.old) (λ out. out.items)
@@ -304,6 +326,8 @@ pub fn answer<F: Files>(alloc: Global, words: &[String], files: &mut F) -> Resul
         Command::Thaw { def, file } => wanted(alloc, files, Want::Whole, def, file),
         Command::Check { def, file } => wanted(alloc, files, Want::Sizes, def, file),
         Command::Layout { file } => layout(alloc, files, file),
+        Command::Upgrade { file } => upgrade(alloc, files, file),
+        Command::Demo { rows } => stages::demonstrated(alloc, rows),
         Command::Print { def } => print_definition(alloc, files, def),
     }
 }

@@ -3,7 +3,6 @@
 
 mod answer;
 mod deliver;
-mod frozen_file;
 mod ids;
 mod refusal;
 mod run;

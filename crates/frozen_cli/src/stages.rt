@@ -1,12 +1,13 @@
 // One function for each stage at which a command may be refused.
-ghost use Rattle.std.specs.Prelude.{◌≡◌, ◌≤◌, ◌<◌, ◌^◌, length, Ok, IfOk, IsOk, IfSome, IsErrAnd, vec_len};
+ghost use Rattle.std.specs.Prelude.{◌≡◌, ◌≤◌, ◌<◌, ◌^◌, length, Ok, IfOk, IfErr, IsOk, IfSome, IsErrAnd, vec_len};
 ghost use Rattle.std.specs.Prelude.{option_map};
 ghost use Rattle.frozen_cli.specs.Changes.{seen, ReadsFiles};
 ghost use Rattle.frozen_cli.specs.Stages.{StageGives, HeldStageGives, ReadStage};
 ghost use Rattle.frozen_cli.specs.Refusal.{IsRefused, IsReading};
-ghost use Rattle.frozen_cli.specs.Opened.{value_held, file_held, value_under};
+ghost use Rattle.frozen_cli.specs.Opened.{value_held as value_in_file, file_held, value_under};
 ghost use Rattle.frozen_cli.specs.Reply.{DefinitionStage, ValueStage, FileStage, BindStage, PathStage};
-ghost use Rattle.frozen_cli.specs.Reply.{FitStage, PartStage, CellsStage, Freezes, Writes, check_line};
+ghost use Rattle.frozen_cli.specs.Reply.{FitStage, PartStage, CellsStage, Freezes, Upgrades, Demonstrates};
+ghost use Rattle.frozen_cli.specs.Reply.{Writes, check_line};
 ghost use Rattle.frozen_cli.specs.Reply.{shown as shown_text};
 ghost use Rattle.frozen_model.specs.Values.{Of, cells, cell_limit};
 ghost use Rattle.frozen_laws.specs.Laws.{IsContent};
@@ -29,14 +30,16 @@ ghost use Rattle.evolve.specs.Bound.{IsBound};
 ghost use Rattle.evolve.specs.Parts.{at};
 ghost use Rattle.evolve.specs.Lenses.{value_of_lens, type_of_lens};
 
-use crate::frozen_file::frozen_file;
 use crate::ids::ids_text;
 use crate::refusal::{Failure, Refusal, Role};
 use crate::words::Showing;
 use cli_texts::layout_text;
 use compact_codec::{decode, encode};
+use demo_table::{demo, demo_line};
 use evolve::{BindFault, Lens, Plan, bind as bind_definition};
 use file_check::{OpenFault, Opened, open_frozen};
+use file_value::value_of;
+use frozen_file::{frozen_file, refrozen_file};
 use fz_base::{Files, ReadFault, Steps, read_whole};
 use json_line::{item_lines, json_line};
 use lens_lookup::lookup;
@@ -124,12 +127,45 @@ pub fn freeze_value(alloc: Global, def: &Definition, value: &Tree) -> Result<Vec
     Ok(frozen_file(alloc, def, value.top())?)
 }
 
+/// The value of an opened file as a tree.
+pub fn value_held(alloc: Global, opened: &Opened<'_>) -> Result<Tree, Failure>
+    requires { IsContent (layout_of opened.now.layouts).tree (value_in_file opened.now) opened.now.content.now }
+    ensures value { IfOk result (λ t. value_of_tree t ≡ value_in_file opened.now) }
+    ensures form { IfOk result (λ t. Of (layout_of opened.now.layouts).tree (value_of_tree t)) }
+    ensures few { IfOk result (λ t. cells (layout_of opened.now.layouts).tree (value_of_tree t) ≤ cell_limit) }
+    ensures memory { IfErr result (λ e. e ≡ Failure.NoMemory) }
+{
+    Ok(value_of(alloc, opened)?)
+}
+
+/// The frozen file of a value in the least layout of version 2 of the same kinds as an opened file's.
+pub fn refrozen(alloc: Global, opened: &Opened<'_>, value: &Tree) -> Result<Vec<u8>, Failure>
+    requires value { value_of_tree value.now ≡ value_in_file opened.now }
+    requires form { Of (layout_of opened.now.layouts).tree (value_of_tree value.now) }
+    requires few { cells (layout_of opened.now.layouts).tree (value_of_tree value.now) ≤ cell_limit }
+    ensures gives { StageGives (λ out. out.items) (Upgrades (file_held opened.now)) result }
+    ensures no_file { IsErrAnd result (IsRefused IsReading) → ⊥ }
+{
+    Ok(refrozen_file(alloc, &opened.layouts, value.top())?)
+}
+
+/// The line of a demo of so many rows.
+pub fn demonstrated(alloc: Global, rows: u32) -> Result<Vec<u8>, Failure>
+    requires some { 1 ≤ rows }
+    requires few { rows ≤ 100000 }
+    ensures gives { StageGives (λ out. out.items) (Demonstrates rows) result }
+    ensures no_file { IsErrAnd result (IsRefused IsReading) → ⊥ }
+{
+    let demo = demo(alloc, rows)?;
+    Ok(demo_line(alloc, &demo)?.into_bytes())
+}
+
 /// The layout and the content of a frozen file.
 pub fn file(alloc: Global, bytes: &[u8]) -> Result<Opened<'_>, Failure>
     requires { length bytes.now < 2 ^ 56 }
     ensures gives { StageGives file_held (FileStage bytes.now) result }
     ensures held { IfOk result (λ o.
-        IsContent (layout_of o.layouts).tree (value_held o) o.content.now) }
+        IsContent (layout_of o.layouts).tree (value_in_file o) o.content.now) }
     ensures no_file { IsErrAnd result (IsRefused IsReading) → ⊥ }
 {
     match open_frozen(alloc, bytes) {

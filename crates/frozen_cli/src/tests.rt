@@ -1,4 +1,6 @@
 // Whole runs of the program, over files and sinks in memory.
+mod failing;
+
 use crate::run::{run, start};
 use fz_base::{MemFiles, MemSink};
 use std::alloc::{AllocError, Global};
@@ -38,17 +40,20 @@ struct Ran {
     err: MemSink,
 }
 
-// What fails in a run: the read and the write to out of that number, and the bytes that out has room for.
+// What fails in a run: the read, the write to out and the write to err of these numbers, from 1 on; and the
+// bytes that out has room for.
 #[derive(Clone, Copy)]
 struct Faults {
     read: u64,
     write: u64,
+    line: u64,
     room: usize,
 }
 
 const NO_FAULTS: Faults = Faults {
     read: 0,
     write: 0,
+    line: 0,
     room: 200,
 };
 
@@ -103,7 +108,7 @@ fn files_of(alloc: Global, fail: u64) -> Result<MemFiles, AllocError> {
     Ok(MemFiles::new(files, 2_000_000, vec![in alloc; fail]?))
 }
 
-// Runs the words of a line; out takes at most ten bytes a write.
+// Runs the words of a line; out and err take at most ten bytes a write.
 fn run_line(alloc: Global, line: &str, faults: Faults) -> Result<Ran, AllocError> {
     let mut words = Vec::new(alloc);
     for word in line.split_whitespace() {
@@ -111,7 +116,7 @@ fn run_line(alloc: Global, line: &str, faults: Faults) -> Result<Ran, AllocError
     }
     let mut files = files_of(alloc, faults.read)?;
     let mut out = MemSink::new(alloc, faults.room, 10, vec![in alloc; faults.write]?)?;
-    let mut err = MemSink::new(alloc, 100, 10, Vec::new(alloc))?;
+    let mut err = MemSink::new(alloc, 100, 10, vec![in alloc; faults.line]?)?;
     let status = run(alloc, &words, &mut files, &mut out, &mut err);
     Ok(Ran { status, out, err })
 }
@@ -242,6 +247,15 @@ fn files_are_answered_as_they_should(rt: HostRuntime) -> Result<(), Fail> {
             b"0 - - struct 5 0\n1 0 1 i32 4 0\n2 0 2 i32 1 4\n".as_slice(),
             "",
         ),
+        ("upgrade first", 0, FILE, ""),
+        ("upgrade file", 0, FILE, ""),
+        (
+            "demo 1",
+            0,
+            b"demo rows=1 cells=45 nodes=30 content=27 found=1 most=1\n".as_slice(),
+            "",
+        ),
+        ("demo 0", 2, b"".as_slice(), "usage: frozen COMMAND WORDS\n"),
         ("get def cut .z", 3, b"".as_slice(), "file 1\n"),
         ("get def no_schema .x", 3, b"".as_slice(), "file 3\n"),
         (
@@ -282,47 +296,5 @@ fn files_are_answered_as_they_should(rt: HostRuntime) -> Result<(), Fail> {
         assert_eq!(rt; ran.out.bytes(), out, "{line}");
         assert_eq!(rt; ran.err.bytes(), err.as_bytes(), "{line}");
     }
-    Ok(())
-}
-
-// A run reads each of its two files in two reads, and writes the file of 78 bytes in eight writes.
-#[test]
-fn each_fault_has_its_line(rt: HostRuntime) -> Result<(), Fail> {
-    let alloc = rt.alloc();
-    for (line, second) in [
-        ("freeze def value", "value unreadable\n"),
-        ("get def file .y", "file unreadable\n"),
-    ] {
-        for read in 1..5 {
-            let ran = run_line(alloc, line, Faults { read, ..NO_FAULTS })?;
-            let wanted = if read < 3 {
-                "definition unreadable\n"
-            } else {
-                second
-            };
-            assert_eq!(rt; ran.status, 4, "{line} {read}");
-            assert!(rt; ran.out.bytes().is_empty(), "{line} {read}");
-            assert_eq!(rt; ran.err.bytes(), wanted.as_bytes(), "{line} {read}");
-        }
-    }
-    for write in 1..9 {
-        let ran = run_line(alloc, "freeze def value", Faults { write, ..NO_FAULTS })?;
-        let written = 10 * (write as usize - 1);
-        assert_eq!(rt; ran.status, 5, "{write}");
-        assert!(rt; ran.out.bytes().len() == written, "{write}");
-        assert!(rt; FILE.starts_with(ran.out.bytes()), "{write}");
-        assert_eq!(rt; ran.err.bytes(), b"write failed\n".as_slice(), "{write}");
-    }
-    let ran = run_line(
-        alloc,
-        "freeze def value",
-        Faults {
-            room: 10,
-            ..NO_FAULTS
-        },
-    )?;
-    assert_eq!(rt; ran.status, 5);
-    assert_eq!(rt; ran.out.bytes(), b"FZ2P\x46\0\0\0\x11\x1B".as_slice());
-    assert_eq!(rt; ran.err.bytes(), b"write failed\n".as_slice());
     Ok(())
 }

@@ -1,8 +1,10 @@
 // The words of a command.
-ghost use Rattle.std.specs.Prelude.{map, string_bytes, IsErrAnd};
+ghost use Rattle.std.specs.Prelude.{◌≡◌, map, string_bytes, Ok, Err, IsErrAnd, MatchOption};
+ghost use Rattle.std.specs.Char.{is_ascii_digit};
+ghost use Rattle.std.specs.List.{list_all};
 ghost use Rattle.frozen_cli.specs.Stages.{StageGives};
 ghost use Rattle.frozen_cli.specs.Refusal.{IsRefused, IsReading};
-ghost use Rattle.frozen_cli.specs.Reply.{WordsStage};
+ghost use Rattle.frozen_cli.specs.Reply.{WordsStage, row_count as row_count_of};
 ghost use Rattle.frozen_cli.specs.Words.{form_in};
 
 use crate::refusal::{Failure, Refusal};
@@ -45,10 +47,58 @@ pub enum Command<'a> {
     Layout {
         file: &'a str,
     },
+    /// `upgrade FILE`
+    Upgrade {
+        file: &'a str,
+    },
     /// `print DEF`
     Print {
         def: &'a str,
     },
+    /// `demo N`, of 1 to 100,000 rows
+    Demo {
+        rows: u32,
+    },
+}
+
+fn is_digit(byte: &u8) -> bool
+    ensures { result ≡ is_ascii_digit byte.now }
+{
+    byte.is_ascii_digit()
+}
+
+// Whether the bytes are decimal digits.
+fn are_digits(bytes: &[u8]) -> bool
+    ensures { result ≡ list_all is_ascii_digit bytes.now }
+{
+    bytes.iter().all(|byte| is_digit(byte))
+}
+
+// The number of rows that a word of one to six decimal digits spells, from 1 to 100,000.
+fn row_count(word: &str) -> Option<u32>
+    ensures { result ≡ row_count_of word.now }
+{
+    if word.len() > 6 {
+        return None;
+    }
+    if !are_digits(word.as_bytes()) {
+        return None;
+    }
+    match word.parse::<u32>() {
+        Ok(rows) if 1 <= rows && rows <= 100_000 => Some(rows),
+        _ => None,
+    }
+}
+
+// The demo of the rows that a word spells.
+fn demo_of(word: &str) -> Result<Command<'_>, Failure>
+    ensures { MatchOption (row_count_of word.now) (result ≡ Err (Failure.Refused Refusal.Usage))
+        (λ n. result ≡ Ok (Command.Demo n)) }
+{
+    match row_count(word) {
+        Some(rows) => Ok(Command::Demo { rows }),
+        None => Err(Failure::Refused(Refusal::Usage)),
+    }
 }
 
 /// The command that the words spell.
@@ -61,6 +111,10 @@ pub fn parse_words(words: &[String]) -> Result<Command<'_>, Failure>
         [command, file] if command.as_str() == "layout" => Ok(Command::Layout {
             file: file.as_str(),
         }),
+        [command, file] if command.as_str() == "upgrade" => Ok(Command::Upgrade {
+            file: file.as_str(),
+        }),
+        [command, rows] if command.as_str() == "demo" => demo_of(rows.as_str()),
         [command, def, value] if command.as_str() == "freeze" => Ok(Command::Freeze {
             def: def.as_str(),
             value: value.as_str(),

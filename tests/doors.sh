@@ -71,6 +71,7 @@ printf 'struct P {\n  1: i32 x;\n  2: i32 y;\n}\n' >printed
 printf -- '-1\n' >y
 printf '5\n' >x
 printf '{"x":5,"y":-1}\n' >whole
+printf 'demo rows=1 cells=45 nodes=30 content=27 found=1 most=1\n' >figures
 printf 'nothing' >print
 cp print get
 cp print freeze
@@ -209,6 +210,10 @@ cases() {
     run print d
     check 'the script by a link' 0 printed ''
     script=$room/$1/frozen
+    run upgrade f
+    check 'upgrade' 0 f ''
+    run demo 1
+    check 'demo' 0 figures ''
     "$script" help | sed -n 's/^  \([a-z]* [A-Z].*[A-Z]\) .*/\1/p' >forms
     while read -r form; do
         run $form

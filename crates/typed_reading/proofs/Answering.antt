@@ -1,5 +1,5 @@
 -- The answers of a whole struct, and that each is given where its cause holds.
-use Rattle.std.proofs.Common.{◌≡◌, ◌⊎◌, inl, inr, ℕ, List, [], Option, Some, None, Result, Ok, Err, refl, sym, ap, subst, ◌∙◌}
+use Rattle.std.proofs.Common.{◌≡◌, inl, inr, ℕ, List, Some, None, Result, Ok, Err, refl, sym, ap, ◌∙◌}
 use Rattle.compact_wire.specs.declared.fault.WireFault.{WireFault}
 use Rattle.compact_wire.specs.declared.fault.WireFault.TheVariants.{Truncated, Malformed, Trailing, NoMemory}
 use Rattle.compact_wire.specs.Node.{Node}
@@ -14,7 +14,7 @@ use Rattle.typed_reading.specs.declared.fault.Found.{Found}
 use Rattle.typed_reading.specs.declared.fault.ValueFault.{ValueFault}
 use Rattle.typed_reading.specs.declared.fault.ValueFault.TheVariants as fault
 use Rattle.typed_reading.specs.Faults.{faults, here, least}
-use Rattle.typed_reading.specs.Answers.{fault_at, IsLeastFault, IsValue, IsCaused, IsUnread, IsOnlyCaused, OrMemory}
+use Rattle.typed_reading.specs.Answers.{fault_at, IsValue, IsCaused, IsUnread, IsOnlyCaused}
 use Rattle.typed_reading.proofs.LeastLaws.{least_none}
 
 module _ (t : TypeTree) (b : List ℕ) where

@@ -1,5 +1,5 @@
 -- The answers of checking, and that each is given where its cause holds.
-use Rattle.std.proofs.Common.{◌≡◌, ◌⊎◌, inl, inr, ℕ, suc, ◌<◌, ◌≤◌, nat_lt, Bool, true, false, cond, List, [], ◌++◌, length, Result, Ok, Err, refl, sym, ap, subst, ◌∙◌, arith, append-nil}
+use Rattle.std.proofs.Common.{◌≡◌, inl, inr, ℕ, suc, ◌<◌, ◌≤◌, nat_lt, Bool, true, false, cond, List, [], ◌++◌, length, Result, Ok, Err, refl, sym, ap, subst, ◌∙◌, arith, append-nil}
 use Rattle.std.proofs.lemmas.Bool.Decides.{nat_tests}
 use Rattle.exact_reading.specs.Reading.{seen}
 use Rattle.exact_reading.proofs.Items.{ok_is}
@@ -72,9 +72,6 @@ module _ (t : TypeTree) (b : List ℕ) where
     value = λ w v le. memory_ran_out f _ (o.value w v);
   }
 
-  pub only_memory : (f : ValueFault) → f ≡ fault.NoMemory → IsOnlyChecked t b (Err f)
-  only_memory f e = record { wire = λ g c. inr (ap Err e); faulty = λ n k c. inr (ap Err e); too_many = λ w v lt. inr (ap Err e); value = λ w v le. inr (ap Err e) }
-
   -- ---- where there is a value
 
   no_fault : (f : ValueFault) → OrMemory {X = Unit {0}} (Ok tt) (Err f) → ⊥
@@ -120,12 +117,3 @@ module _ (t : TypeTree) (b : List ℕ) where
         by : (over : Bool) → nat_lt cell_limit c.cells ≡ over → IsOnlyChecked t b (cond over (Err (fault.TooManyCells c.cells)) (Ok c))
         by true p = let more : cell_limit < c.cells = grind (arith, nat_tests) in only_beyond c e more
         by false p = let most : c.cells ≤ cell_limit = grind (arith, nat_tests) in only_within c e most
-
-    -- what counting answers
-    pub counted_is : (c : Checked) → OrMemory (Ok c) (Ok (checked_as t w)) → c ≡ checked_as t w
-    counted_is c (inl e) = cc
-    counted_is c (inr e) = absurd cc
-
-    pub ran_out : (f : ValueFault) → OrMemory {X = Checked} (Err f) (Ok (checked_as t w)) → f ≡ fault.NoMemory
-    ran_out f (inl e) = absurd cc
-    ran_out f (inr e) = cc

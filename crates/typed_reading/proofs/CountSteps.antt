@@ -1,33 +1,39 @@
 -- What is counted behind parts, one after the other.
-use Rattle.std.proofs.Common.{◌≡◌, ◌≢◌, ℕ, ◌+◌, ◌-◌, ◌<◌, nat_eq, List, [], ◌∷◌, length, Bool, true, false, Option, Some, None, Result, Ok, Err, refl, sym, ap, ◌∙◌, arith}
+use Rattle.std.proofs.Common.{◌≡◌, ◌≢◌, ℕ, ◌+◌, nat_eq, List, [], ◌∷◌, length, Bool, true, false, cond, Option, Some, None, Result, Ok, Err, refl, sym, ap, ◌∙◌, arith}
 use Rattle.std.specs.Prelude.{ℤ, find}
 use Rattle.std.proofs.lemmas.Bool.Decides.{nat_tests}
 use Rattle.exact_reading.specs.declared.stop.Stop.{Stop}
-use Rattle.exact_reading.specs.declared.stop.ReadError.{ReadError}
-use Rattle.exact_reading.specs.declared.stop.ReadError.TheVariants as errors
-use Rattle.exact_reading.specs.Reading.{◌>>=◌, and_then, pure, one, taken, seen, left, Fails}
+use Rattle.exact_reading.specs.Reading.{◌>>=◌, pure, one, taken, seen, left}
 use Rattle.compact_wire.specs.declared.kind.Kind.{Kind}
 use Rattle.compact_wire.specs.declared.kind.Kind.TheVariants as k
-use Rattle.compact_wire.specs.declared.header.FieldType.{FieldType}
 use Rattle.compact_wire.specs.declared.header.ListHeader.{ListHeader}
 use Rattle.compact_wire.specs.declared.header.PairKinds.{PairKinds}
 use Rattle.compact_wire.specs.Node.{Node, flag, i8, i16, i32, i64, double, binary, list, set, map, structure, Nodes, no_nodes, node, Pairs, no_pairs, pair, Fields, no_fields, field}
 use Rattle.compact_wire.specs.Codes.{code_of}
-use Rattle.compact_wire.specs.Reads.{scalar, number, most_bytes, value, typed, items, sequence, count, element, mapping, map_header, mapping_pairs, pairs, field_start}
-use Rattle.compact_wire.proofs.ReadSteps.{mapping-none, mapping-some, mapping-pairs}
+use Rattle.compact_wire.specs.Reads.{scalar, number, most_bytes, value, items, sequence, count, element, mapping, map_header, pairs, fits}
+use Rattle.compact_wire.proofs.ReadSteps.{mapping-none, mapping-pairs}
 use Rattle.wire_scan.specs.Sizes.{size}
-use Rattle.wire_scan.proofs.Seen.{seen_ok, seen_err, seen_same, seen_made, items_end, key_end, item_end, Reading, value_end}
+use Rattle.wire_scan.proofs.Seen.{seen_ok, seen_same, seen_made}
 use Rattle.idl_profile.specs.Types.{TypeTree, DefField, fields_of}
 use Rattle.idl_parse.specs.Refs.{element_of, key_of, value_of}
 use Rattle.typed_reading.specs.declared.counts.Checked.{Checked}
 use Rattle.typed_reading.specs.Codes.{code, code_of_node}
-use Rattle.typed_reading.specs.Faults.{has_id, ids_after}
-use Rattle.typed_reading.specs.Marks.{IsLeaf}
+use Rattle.frozen_model.specs.Values.{Value, Atom, One, Bytes}
+use Rattle.compact_wire.specs.Bytes.{ByteReader}
+use Rattle.compact_wire.proofs.ReadSteps.{value-scalar}
+use Rattle.idl_profile.specs.Types.{text, kind_of}
+use Rattle.idl_profile.specs.declared.kinds.TypeKind.TheVariants as kinds
+use Rattle.typed_reading.specs.declared.fault.NodeFault.{NodeFault}
+use Rattle.typed_reading.specs.declared.fault.Found.{Found}
+use Rattle.typed_reading.specs.declared.progress.Progress.{Progress}
+use Rattle.typed_reading.specs.Keys.{key_value}
+use Rattle.typed_reading.specs.Faults.{has_id, ids_after, is_among, is_less, lesser, least, here, faults, of_field, type_in}
+use Rattle.typed_reading.specs.Marks.{IsLeaf, IsLeafAs}
 use Rattle.typed_reading.specs.Counts.{nothing, together, grown, a_scalar, some_bytes, a_holder, an_item, a_struct, by_need, defaults_beside, of_known, total, totals, totals_of_pairs, totals_of_fields}
 use Rattle.typed_reading.specs.Counts.{counted, counted_items, counted_item, counted_pairs, Counting, counted_field, counted_fields, IsHolder}
-use Rattle.typed_reading.specs.Progress.{start}
+use Rattle.typed_reading.specs.Progress.{start, with, after, key_and_after, after_field}
 use Rattle.typed_reading.proofs.Sums.{grown_none, grown_more}
-use Rattle.typed_reading.proofs.Leaves.{scalar_leaf, is_binary, read_binary, value_code, one_header}
+use Rattle.typed_reading.proofs.Leaves.{scalar_leaf, is_binary, is_text, read_binary, one_header}
 use Rattle.typed_reading.proofs.Rows.{row_is}
 
 -- ---- nodes by their codes
@@ -136,30 +142,104 @@ module _ (t : TypeTree) (s : Checked) where
           ap (λ (c : Checked). Ok (grown s c, more)) (scalar_total w t l.1 (λ eight. ne (is_binary kind (sym l.0 ∙ eight))) (l.0 ∙ same)) ∙ ap (λ (y : List ℕ). Ok (grown s a_scalar, y)) z
       by (Err d) is h = absurd cc
 
-  -- of another code
-  pub other_counted : (levels : ℕ) (kind : Kind) (b rest : List ℕ) (n : ℕ) → (code_of kind ≡ code t → ⊥) → seen (λ (w : Node). 0 + size w) (value levels kind b) ≡ Ok (n, rest) → seen (counted t s) (value levels kind b) ≡ Ok (s, rest)
-  other_counted levels kind b rest n ne e =
-      let x = seen_ok (λ (w : Node). 0 + size w) (value levels kind b) n rest e in
-      let none = other_total x.0 t (λ h. ne (sym (value_code levels kind b x.0 rest x.1) ∙ h)) in
-      ap (seen (counted t s)) x.1 ∙ ap (λ (c : Checked). Ok (c, rest)) (ap (grown s) none ∙ grown_none s)
-
   pub flag_counted : (x : Bool) (b : List ℕ) → code t ≡ 1 → seen {E = Stop} (counted t s) (pure (flag x) b) ≡ Ok (grown s a_scalar, b)
   flag_counted x b e = ap (λ (c : Checked). Ok (grown s c, b)) (scalar_total (flag x) t tt (λ h. omega (arith, h)) (sym e))
 
-  pub other_flag : (x : Bool) (b : List ℕ) → (code t ≡ 1 → ⊥) → seen {E = Stop} (counted t s) (pure (flag x) b) ≡ Ok (s, b)
-  other_flag x b ne = ap (λ (c : Checked). Ok (c, b)) (ap (grown s) (other_total (flag x) t (λ h. ne (sym h))) ∙ grown_none s)
+-- a text, read as a value of a text's type
+pub text_counted : (t : TypeTree) (s : Checked) (kind : Kind) (b : List ℕ) → kind_of t ≡ kinds.Text → code_of kind ≡ code t → seen (counted text s) (scalar k.Binary b) ≡ seen (counted t s) (scalar kind b)
+text_counted t s kind b e c =
+    let is = is_text t e in
+    let bin = is_binary kind (c ∙ ap code is) in
+    sym (ap (λ (u : TypeTree). seen (counted u s) (scalar kind b)) is ∙ ap (λ (z : Kind). seen (counted text s) (scalar z b)) bin)
+
+-- ---- keys
+
+bytes_total_key : (t : TypeTree) (b x : List ℕ) → 8 ≡ code t → Bytes b ≡ Bytes x → total (binary b) t ≡ some_bytes (length x)
+bytes_total_key t b x same e = let is : b ≡ x = cc in bytes_total b t same ∙ ap (λ (z : List ℕ). some_bytes (length z)) is
+
+pub bytes_key : (t : TypeTree) (w : Node) (x : List ℕ) → IsLeafAs t w → key_value w ≡ Bytes x → total w t ≡ some_bytes (length x)
+bytes_key t (binary b) x l e = bytes_total_key t b x l.same e
+bytes_key t (flag b) x l e = absurd cc
+bytes_key t (i8 z) x l e = absurd cc
+bytes_key t (i16 z) x l e = absurd cc
+bytes_key t (i32 z) x l e = absurd cc
+bytes_key t (i64 z) x l e = absurd cc
+bytes_key t (double b) x l e = absurd cc
+bytes_key t (list c xs) x l e = absurd l.leaf
+bytes_key t (set c xs) x l e = absurd l.leaf
+bytes_key t (map a b xs) x l e = absurd l.leaf
+bytes_key t (structure xs) x l e = absurd l.leaf
+
+no_bytes_key : (w : Node) (a : Atom) → key_value w ≡ One a → code_of_node w ≢ 8
+no_bytes_key (binary b) a e h = absurd cc
+no_bytes_key (flag b) a e h = omega (arith, h)
+no_bytes_key (i8 z) a e h = omega (arith, h)
+no_bytes_key (i16 z) a e h = omega (arith, h)
+no_bytes_key (i32 z) a e h = omega (arith, h)
+no_bytes_key (i64 z) a e h = omega (arith, h)
+no_bytes_key (double b) a e h = omega (arith, h)
+no_bytes_key (list c xs) a e h = omega (arith, h)
+no_bytes_key (set c xs) a e h = omega (arith, h)
+no_bytes_key (map c d xs) a e h = omega (arith, h)
+no_bytes_key (structure xs) a e h = omega (arith, h)
+
+pub scalar_key : (t : TypeTree) (w : Node) (a : Atom) → IsLeafAs t w → key_value w ≡ One a → total w t ≡ a_scalar
+scalar_key t w a l e = scalar_total w t l.leaf (no_bytes_key w a e) l.same
+
+pub key_counted : (t : TypeTree) (s : Checked) (kind : Kind) (b : List ℕ) (v : Value) (q : Checked) (rest : List ℕ) → code_of kind ≡ code t → seen key_value (scalar kind b) ≡ Ok (v, rest)
+    → ((w : Node) → IsLeafAs t w → key_value w ≡ v → q ≡ grown s (total w t)) → seen (counted t s) (scalar kind b) ≡ Ok (q, rest)
+key_counted t s kind b v q rest same e h =
+    let x = seen_ok key_value (scalar kind b) v rest e in
+    let l = scalar_leaf kind b x.0 rest x.1 in
+    ap (seen (counted t s)) x.1 ∙ ap (λ (c : Checked). Ok (c, rest)) (sym (h x.0 (record { leaf = l.1; same = l.0 ∙ same }) x.2))
+
+-- a key behind the count of its item, read as a value
+pub key_item : (t : TypeTree) (s item q : Checked) (levels : ℕ) (kind : Kind) (b rest : List ℕ) → fits 0 kind ≡ true → item ≡ grown s an_item → seen (counted t item) (scalar kind b) ≡ Ok (q, rest)
+    → seen (counted_item t s) (value levels kind b) ≡ Ok (q, rest)
+key_item t s item q levels kind b rest leaf is e =
+    ap (λ (read : ByteReader Node). seen (counted_item t s) (read b)) (value-scalar levels kind leaf)
+    ∙ ap (λ (c : Checked). seen (counted t c) (scalar kind b)) (sym is) ∙ e
+
+-- ---- where no fault was found
+
+some_found : (a : Option Found) (f : Found) → lesser a (Some f) ≡ None → ⊥
+some_found None f e = cc
+some_found (Some g) f e = by (is_less f g) e
+  where
+    by : (b : Bool) → cond b (Some f) (Some g) ≡ None → ⊥
+    by true h = cc
+    by false h = cc
+
+pub none_left : (a b : Option Found) → lesser a b ≡ None → a ≡ None
+none_left None b e = refl
+none_left (Some f) None e = absurd cc
+none_left (Some f) (Some g) e = absurd (some_found (Some f) g e)
+
+-- behind a fault there is one
+pub noted : (s : Progress) (fault : NodeFault) (n : ℕ) (p : Progress) → p ≡ with s fault n → p.found ≡ None → ⊥
+noted s fault n p is clean = some_found s.found (here s.next fault) (sym (ap (λ (q : Progress). q.found) is) ∙ clean)
+
+-- what was found is there before the last part too, if it is there behind it
+clean_part : {A : Type 0} (f : A → Progress) (s p : Progress) (r : Result (A × List ℕ) Stop) (rest : List ℕ) (more : A → Option Found) → ((x : A) → (f x).found ≡ lesser s.found (more x)) → seen f r ≡ Ok (p, rest) → p.found ≡ None
+    → s.found ≡ None
+clean_part f s p r rest more is e clean =
+    let x = seen_ok f r p rest e in none_left s.found (more x.0) (sym (is x.0) ∙ ap (λ (q : Progress). q.found) x.2 ∙ clean)
+
+pub clean_value : (t : TypeTree) (s p : Progress) (r : Result (Node × List ℕ) Stop) (rest : List ℕ) → seen (after t s) r ≡ Ok (p, rest) → p.found ≡ None → s.found ≡ None
+clean_value t s p r rest e clean = clean_part (after t s) s p r rest (λ (w : Node). least (faults w t s.next)) (λ w. refl) e clean
+
+pub clean_key : (t : TypeTree) (s p : Progress) (v : ℕ × Value) (r : Result (Node × List ℕ) Stop) (rest : List ℕ) → seen (key_and_after t s) r ≡ Ok ((p, v), rest) → p.found ≡ None → s.found ≡ None
+clean_key t s p v r rest e clean =
+    let x = seen_ok (key_and_after t s) r (p, v) rest e in
+    none_left s.found (least (faults x.0 t s.next)) (ap (λ (q : Progress × (ℕ × Value)). q.0.found) x.2 ∙ clean)
+
+pub clean_field : (fs : List DefField) (s p : Progress) (ids : List ℤ) (id : ℤ) (r : Result (Node × List ℕ) Stop) (rest : List ℕ) → seen (λ (w : Node). (after_field fs (s, ids) id w).0) r ≡ Ok (p, rest) → p.found ≡ None → s.found ≡ None
+clean_field fs s p ids id r rest e clean =
+    clean_part (λ (w : Node). (after_field fs (s, ids) id w).0) s p r rest (λ (w : Node). least (of_field (type_in fs id) (is_among id ids) w (λ t. faults w t s.next) s.next)) (λ w. refl) e clean
 
 -- ---- lists and sets
 
 module _ (make : ℕ → Nodes → Node) (t : TypeTree) (s : Checked) (levels : ℕ) (b : List ℕ) where
-  pub header_fails : (d : Stop) → one_header levels b ≡ Err d → seen (counted t s) (sequence make levels (value levels) b) ≡ Err d
-  unfolding sequence
-  header_fails d h = rw h refl
-
-  pub count_fails : (h : ListHeader) (rest : List ℕ) (d : Stop) → one_header levels b ≡ Ok (h, rest) → count levels h rest ≡ Err d → seen (counted t s) (sequence make levels (value levels) b) ≡ Err d
-  unfolding sequence
-  count_fails h rest d e f = rw (e, f) refl
-
   pub row_counted : (h : ListHeader) (rest behind : List ℕ) (n : ℕ) → one_header levels b ≡ Ok (h, rest) → count levels h rest ≡ Ok (n, behind) → IsHolder t make
       → seen (counted t s) (sequence make levels (value levels) b) ≡ seen (counted_items (element_of t) (grown s a_holder)) (items (value levels (element h)) n behind)
   row_counted h rest behind n e f holds =
@@ -169,28 +249,13 @@ module _ (make : ℕ → Nodes → Node) (t : TypeTree) (s : Checked) (levels : 
       ∙ seen_made (counted t s) (make c) r
       ∙ seen_same (λ (xs : Nodes). counted t s (make c xs)) (counted_items (element_of t) (grown s a_holder)) r (λ xs. ap (grown s) (holds c xs) ∙ grown_more s a_holder (totals xs (element_of t)))
 
-pub items_fail : (t : TypeTree) (levels : ℕ) (kind : Kind) (e : ReadError Stop) (s : Checked) (n i : ℕ) (b : List ℕ) (all : Result (Checked × List ℕ) Stop) → i < n → Fails e (seen (counted_item t s) (value levels kind b))
-    → seen (counted_items t s) (items (value levels kind) (n - i) b) ≡ all → Fails e all
-items_fail t levels kind errors.NoMemory s n i b all lt f e = tt
-items_fail t levels kind (errors.Stop d) s n i b all lt f e = items_end (counted_item t) (counted_items t) (none_counted t) (one_counted t) (value levels kind) s d n i b all lt f e
-
 -- ---- maps
 
 module _ (t : TypeTree) (s : Checked) (levels : ℕ) (b : List ℕ) where
-  pub map_fails : (d : Stop) → number 4 most_bytes b ≡ Err d → seen (counted t s) (mapping levels (value levels) b) ≡ Err d
-  unfolding mapping
-  map_fails d h = rw h refl
-
   pub empty_map_counted : (n : ℕ) (rest : List ℕ) → number 4 most_bytes b ≡ Ok (n, rest) → n ≡ 0 → code t ≡ 11 → seen (counted t s) (mapping levels (value levels) b) ≡ Ok (grown s a_holder, rest)
   empty_map_counted n rest h z eleven =
       ap (seen (counted t s)) (mapping-none levels (value levels) b rest n h z)
       ∙ ap (λ (c : Checked). Ok (grown s c, rest)) (map_total t 0 0 no_pairs eleven)
-
-  pub kinds_fail : (n : ℕ) (rest : List ℕ) (d : Stop) → number 4 most_bytes b ≡ Ok (n, rest) → n ≢ 0 → one (map_header levels) rest ≡ Err d → seen (counted t s) (mapping levels (value levels) b) ≡ Err d
-  kinds_fail n rest d h some e = ap (seen (counted t s)) (mapping-some levels (value levels) b rest n h some) ∙ ends
-    where
-      ends : seen (counted t s) (and_then (one (map_header levels)) (mapping_pairs (value levels) n) rest) ≡ Err d
-      ends = rw e refl
 
   pub map_counted : (n : ℕ) (rest behind : List ℕ) (kinds : PairKinds) → number 4 most_bytes b ≡ Ok (n, rest) → n ≢ 0 → one (map_header levels) rest ≡ Ok (kinds, behind) → code t ≡ 11
       → seen (counted t s) (mapping levels (value levels) b) ≡ seen (counted_pairs (key_of t) (value_of t) (grown s a_holder)) (pairs (value levels kinds.key) (value levels kinds.value) n behind)
@@ -202,30 +267,14 @@ module _ (t : TypeTree) (s : Checked) (levels : ℕ) (b : List ℕ) where
       ∙ seen_same (λ (xs : Pairs). counted t s (made xs)) (counted_pairs (key_of t) (value_of t) (grown s a_holder)) r
       (λ xs. ap (grown s) (map_total t (code_of kinds.key) (code_of kinds.value) xs eleven) ∙ grown_more s a_holder (totals_of_pairs xs (key_of t) (value_of t)))
 
-module _ (k v : TypeTree) (levels : ℕ) (a c : Kind) where
-  pub key_fails : (e : ReadError Stop) (s : Checked) (n i : ℕ) (b : List ℕ) (all : Result (Checked × List ℕ) Stop) → i < n → Fails e (seen (counted_item k s) (value levels a b))
-      → seen (counted_pairs k v s) (pairs (value levels a) (value levels c) (n - i) b) ≡ all → Fails e all
-  key_fails errors.NoMemory s n i b all lt f e = tt
-  key_fails (errors.Stop d) s n i b all lt f e =
-      key_end (counted_item k) (counted v) (counted_pairs k v) (no_pair_counted k v) (pair_counted k v) (value levels a) (value levels c) s d n i b all lt f e
-
-  pub value_fails : (e : ReadError Stop) (s m : Checked) (n i : ℕ) (b mid : List ℕ) (all : Result (Checked × List ℕ) Stop) → i < n → seen (counted_item k s) (value levels a b) ≡ Ok (m, mid) → Fails e (seen (counted v m) (value levels c mid))
-      → seen (counted_pairs k v s) (pairs (value levels a) (value levels c) (n - i) b) ≡ all → Fails e all
-  value_fails errors.NoMemory s m n i b mid all lt h f e = tt
-  value_fails (errors.Stop d) s m n i b mid all lt h f e =
-      item_end (counted_item k) (counted v) (counted_pairs k v) (no_pair_counted k v) (pair_counted k v) (value levels a) (value levels c) s m d n i b mid all lt h f e
-
 -- ---- fields
 
 module _ (fs : List DefField) (s : Checked) (ids : List ℤ) (id : ℤ) (r : Result (Node × List ℕ) Stop) where
-  pub unknown_counted : (n : ℕ) (rest : List ℕ) → find (has_id id) fs ≡ None → seen (λ (w : Node). 0 + size w) r ≡ Ok (n, rest) → seen (λ (w : Node). (counted_field fs (s, ids) id w).0) r ≡ Ok (s, rest)
-  unknown_counted n rest none e =
-      let x = seen_ok (λ (w : Node). 0 + size w) r n rest e in
+  pub unknown_counted : (at n : ℕ) (rest : List ℕ) → find (has_id id) fs ≡ None → seen (λ (w : Node). at + size w) r ≡ Ok (n, rest) → seen (λ (w : Node). (counted_field fs (s, ids) id w).0) r ≡ Ok (s, rest)
+  unknown_counted at n rest none e =
+      let x = seen_ok (λ (w : Node). at + size w) r n rest e in
       ap (seen (λ (w : Node). (counted_field fs (s, ids) id w).0)) x.1
       ∙ ap (λ (c : Checked). Ok (c, rest)) (ap (λ (o : Option DefField). grown s (of_known o (total x.0))) none ∙ grown_none s)
-
-  pub unknown_fails : (d : Stop) → seen (λ (w : Node). 0 + size w) r ≡ Err d → seen (λ (w : Node). (counted_field fs (s, ids) id w).0) r ≡ Err d
-  unknown_fails d e = ap (seen (λ (w : Node). (counted_field fs (s, ids) id w).0)) (seen_err (λ (w : Node). 0 + size w) r d e)
 
   pub known_counted : (f : DefField) → find (has_id id) fs ≡ Some f → seen (λ (w : Node). (counted_field fs (s, ids) id w).0) r ≡ seen (counted f.type (grown s (by_need f.need))) r
   known_counted f some =
@@ -237,15 +286,9 @@ module _ (fs : List DefField) (s : Checked) (ids : List ℤ) (id : ℤ) (r : Res
       let x = seen_ok (λ (w : Node). (counted_field fs (s, ids) id w).0) r q rest e in
       ap (seen (counted_field fs (s, ids) id)) x.1 ∙ ap (λ (p : Checked). Ok ((p, id ∷ ids), rest)) x.2
 
-  pub field_ends : (d : Stop) → seen (λ (w : Node). (counted_field fs (s, ids) id w).0) r ≡ Err d → seen (counted_field fs (s, ids) id) r ≡ Err d
-  field_ends d e = ap (seen (counted_field fs (s, ids) id)) (seen_err (λ (w : Node). (counted_field fs (s, ids) id w).0) r d e)
-
 -- ---- structs
 
 module _ (t : TypeTree) (s : Checked) (levels : ℕ) (r : Result (Fields × List ℕ) Stop) where
-  pub struct_fails : (d : Stop) → seen (counted_fields (fields_of t) (grown s a_struct, [])) r ≡ Err d → seen (counted t s) (r >>= λ p. Ok (structure p.0, p.1)) ≡ Err d
-  struct_fails d e = ap (λ (q : Result (Fields × List ℕ) Stop). seen (counted t s) (q >>= λ p. Ok (structure p.0, p.1))) (seen_err (counted_fields (fields_of t) (grown s a_struct, [])) r d e)
-
   pub struct_counted : (known : Checked) (ids : List ℤ) (rest : List ℕ) → code t ≡ 12 → seen (counted_fields (fields_of t) (grown s a_struct, [])) r ≡ Ok ((known, ids), rest)
       → seen (counted t s) (r >>= λ p. Ok (structure p.0, p.1)) ≡ Ok (grown known (defaults_beside (fields_of t) ids), rest)
   struct_counted known ids rest twelve e =
@@ -258,13 +301,3 @@ module _ (t : TypeTree) (s : Checked) (levels : ℕ) (r : Result (Fields × List
       ∙ grown_more s (together a_struct (totals_of_fields xs fs)) (defaults_beside fs (ids_after xs []))
       ∙ ap (λ (c : Checked). grown c (defaults_beside fs (ids_after xs []))) (grown_more s a_struct (totals_of_fields xs fs))
       ∙ ap (λ (q : Counting). grown q.0 (defaults_beside fs q.1)) x.2)
-
-  pub field_fails : (e : ReadError Stop) (known : Checked) (ids : List ℤ) (before id : ℤ) (ty : FieldType) (rest mid : List ℕ)
-      → Reading (counted_field (fields_of t)) (counted_fields (fields_of t)) (no_field_counted (fields_of t)) (field_counted (fields_of t)) levels (known, ids) before rest (seen (counted_fields (fields_of t) (grown s a_struct, [])) r)
-      → field_start levels before rest ≡ Ok (Some (id, ty), mid)
-      → Fails e (seen (λ (w : Node). (counted_field (fields_of t) (known, ids) id w).0) (typed (value levels) ty mid))
-      → Fails e (seen (counted t s) (r >>= λ p. Ok (structure p.0, p.1)))
-  field_fails errors.NoMemory known ids before id ty rest mid h begins f = tt
-  field_fails (errors.Stop d) known ids before id ty rest mid h begins f =
-      struct_fails d (value_end (counted_field (fields_of t)) (counted_fields (fields_of t)) (no_field_counted (fields_of t)) (field_counted (fields_of t)) levels (known, ids) d before id ty rest mid (seen (counted_fields (fields_of t) (grown s a_struct, [])) r) h begins
-      (field_ends (fields_of t) known ids id (typed (value levels) ty mid) d f))

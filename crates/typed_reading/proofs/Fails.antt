@@ -1,5 +1,5 @@
 -- Errors of the parts are errors of the whole.
-use Rattle.std.proofs.Common.{◌≡◌, ◌-◌, ◌<◌, ℕ, List, [], ◌∷◌, Option, Some, Result, Ok, Err, refl, sym, ap, ◌∙◌}
+use Rattle.std.proofs.Common.{◌≡◌, ◌-◌, ◌<◌, ℕ, List, [], Some, Result, Ok}
 use Rattle.std.specs.Prelude.{ℤ}
 use Rattle.exact_reading.specs.declared.stop.Stop.{Stop}
 use Rattle.exact_reading.specs.declared.stop.ReadError.{ReadError}
@@ -7,14 +7,14 @@ use Rattle.exact_reading.specs.declared.stop.ReadError.TheVariants as errors
 use Rattle.exact_reading.specs.Reading.{◌>>=◌, Fails}
 use Rattle.compact_wire.specs.declared.header.FieldType.{FieldType}
 use Rattle.compact_wire.specs.declared.kind.Kind.{Kind}
-use Rattle.compact_wire.specs.Node.{Node, structure, Pairs, Fields}
+use Rattle.compact_wire.specs.Node.{Node, structure, Fields}
 use Rattle.compact_wire.specs.Reads.{items, pairs, value, typed, field_start}
-use Rattle.idl_profile.specs.Types.{TypeTree, DefField, fields_of}
+use Rattle.idl_profile.specs.Types.{TypeTree, fields_of}
 use Rattle.exact_reading.specs.Reading.{seen}
-use Rattle.wire_scan.proofs.Seen.{items_end, item_end, Reading, start_end, value_end}
+use Rattle.wire_scan.proofs.Seen.{items_end, item_end, Reading, value_end}
 use Rattle.frozen_model.specs.Values.{Value}
 use Rattle.typed_reading.specs.declared.progress.Progress.{Progress}
-use Rattle.typed_reading.specs.Progress.{after, after_items, after_map, Keying, after_key, after_value, after_pairs, Fielding, after_field, after_fields, inside}
+use Rattle.typed_reading.specs.Progress.{after, after_items, after_map, after_key, after_value, after_pairs, after_field, after_fields, inside}
 use Rattle.typed_reading.proofs.Steps.{no_more, one_more, no_more_pairs, one_more_pair, no_more_fields, one_more_field}
 use Rattle.typed_reading.proofs.Structs.{field_err, struct_err}
 use Rattle.typed_reading.proofs.Tables.{value_err, map_err}

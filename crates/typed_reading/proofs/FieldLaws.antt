@@ -1,6 +1,6 @@
 -- Fields of a type by their ids, and marks of those that stood.
-use Rattle.std.proofs.Common.{◌≡◌, ◌≢◌, ℕ, zero, suc, ◌+◌, ◌-◌, ◌<◌, ◌≤◌, nat_lt, List, [], ◌∷◌, ◌++◌, length, drop, take, set, replicate, get_or, Bool, true, false, ◌||◌, cond, Option, Some, None, refl, sym, ap, subst, ◌∙◌, arith}
-use Rattle.std.specs.Prelude.{ℤ, nat_abs, slice_get, option_map, find, position, ◌&&◌, not}
+use Rattle.std.proofs.Common.{◌≡◌, ◌≢◌, ℕ, zero, suc, ◌+◌, ◌<◌, ◌≤◌, nat_lt, List, [], ◌∷◌, length, drop, set, replicate, get_or, Bool, true, false, ◌||◌, cond, Option, Some, None, refl, sym, ap, ◌∙◌, arith}
+use Rattle.std.specs.Prelude.{ℤ, nat_abs, slice_get, option_map, find, ◌&&◌, not}
 use Rattle.std.specs.List.{position_or_len}
 use Rattle.std.specs.Ordering.{int_eq}
 use Rattle.std.proofs.lemmas.Bool.Decides.{Decides-int_eq, nat_tests}
@@ -10,10 +10,9 @@ use Rattle.frozen_model.specs.Trees.{Rising}
 use Rattle.type_kinds.specs.Accepted.{IsAccepted}
 use Rattle.type_kinds.specs.Defaults.{ids_of_fields}
 use Rattle.type_kinds.specs.Laws.{Any}
-use Rattle.typed_reading.specs.declared.fault.NodeFault.{NodeFault}
 use Rattle.typed_reading.specs.declared.fault.NodeFault.TheVariants.{MissingRequired}
 use Rattle.typed_reading.specs.Faults.{has_id, is_among, missing, is_required}
-use Rattle.typed_reading.specs.Marks.{place_in, Marked, listed}
+use Rattle.typed_reading.specs.Marks.{place_in, Marked}
 
 -- ---- places
 

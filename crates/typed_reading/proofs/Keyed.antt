@@ -1,11 +1,10 @@
 -- The repeats among keys whose places rise, as `least_repeat` tells them.
-use Rattle.std.proofs.Common.{◌≡◌, ◌≢◌, ◌⊎◌, inl, inr, ℕ, zero, suc, ◌+◌, ◌*◌, ◌<◌, ◌≤◌, List, [], ◌∷◌, ◌++◌, length, map, get_or, Bool, true, false, ◌||◌, cond, Option, Some, None, refl, sym, ap, subst, ◌∙◌, arith}
-use Rattle.std.specs.Prelude.{ℤ, bytes_eq, AllPairs}
-use Rattle.std.specs.Ordering.{int_eq}
+use Rattle.std.proofs.Common.{◌≡◌, ◌≢◌, ◌⊎◌, inl, inr, ℕ, zero, suc, ◌<◌, ◌≤◌, List, [], ◌∷◌, ◌++◌, length, map, get_or, Bool, true, false, ◌||◌, Option, Some, None, refl, sym, ap, subst, ◌∙◌, arith}
+use Rattle.std.specs.Prelude.{ℤ, AllPairs}
 use Rattle.std.specs.List.{Contains}
 use Rattle.std.proofs.lemmas.Bool.Decides.{Decides-int_eq}
 use Rattle.std.proofs.lemmas.Slice.Eq.{bytes_eq-Decides}
-use Rattle.std.proofs.lemmas.List.{get_or-map, length-map, map_push, get_or_default}
+use Rattle.std.proofs.lemmas.List.{length-map, map_push}
 use Rattle.frozen_model.specs.Values.{Value, Truth, Number, One, Bytes, Items, Absent, Present, Record}
 use Rattle.key_order.specs.declared.key.Key.{Key}
 use Rattle.key_order.specs.declared.key.Key.TheVariants as key
@@ -13,11 +12,10 @@ use Rattle.key_order.specs.declared.repeats.PlacedKey.{PlacedKey}
 use Rattle.key_order.specs.Keys.{value_of}
 use Rattle.key_order.specs.Entries.{places, placed}
 use Rattle.key_order.specs.Repeats.{IsRepeat, HasNoRepeat, IsLeastRepeat}
-use Rattle.typed_reading.specs.declared.fault.NodeFault.{NodeFault}
 use Rattle.typed_reading.specs.declared.fault.NodeFault.TheVariants.{RepeatedKey}
 use Rattle.typed_reading.specs.declared.fault.Found.{Found}
 use Rattle.typed_reading.specs.Keys.{same_key}
-use Rattle.typed_reading.specs.Faults.{here, if_here, is_key_among, repeats, rank, least, IsLeast}
+use Rattle.typed_reading.specs.Faults.{here, if_here, is_key_among, repeats, rank, least}
 use Rattle.typed_reading.specs.Marks.{Climbs}
 use Rattle.typed_reading.proofs.LeastLaws.{least_some, least_none}
 

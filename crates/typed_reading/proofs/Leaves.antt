@@ -1,6 +1,5 @@
 -- Values that are no containers, and values of another code than the type.
-use Rattle.std.proofs.Common.{◌||◌, ◌≡◌, ◌≢◌, ◌⊎◌, inl, inr, ℕ, zero, suc, ◌+◌, ◌-◌, ◌*◌, ◌^◌, ◌<◌, ◌≤◌, nat_eq, ◌&&◌, List, [], ◌∷◌, ◌++◌, length, Bool, true, false, cond, Option, Some, None, Result, Ok, Err, refl, sym, ap, subst, ◌∙◌, arith, add-one}
-use Rattle.std.specs.Prelude.{ℤ, find, option_map}
+use Rattle.std.proofs.Common.{◌≡◌, ◌≢◌, ℕ, zero, suc, ◌+◌, ◌-◌, ◌^◌, nat_eq, List, [], ◌∷◌, Bool, true, false, Some, Result, Ok, Err, refl, sym, ap, subst, ◌∙◌, arith}
 use Rattle.std.specs.Str.{is_utf8}
 use Rattle.std.proofs.lemmas.Bool.Decides.{nat_tests}
 use Rattle.frozen_model.specs.Values.{Value, Atom, One, Bytes}
@@ -9,30 +8,24 @@ use Rattle.exact_reading.specs.Reading.{◌>>=◌, and_then, pure, one, taken, s
 use Rattle.exact_reading.proofs.Items.{ok_is, bind_ok}
 use Rattle.compact_wire.specs.declared.kind.Kind.{Kind}
 use Rattle.compact_wire.specs.declared.kind.Kind.TheVariants as k
-use Rattle.compact_wire.specs.Node.{Node, flag, i8, i16, i32, i64, double, binary, list, set, map, structure, Nodes, no_nodes, node, Pairs, no_pairs, pair, Fields, no_fields, field}
+use Rattle.compact_wire.specs.Node.{Node, flag, i8, i16, i32, i64, double, binary, list, set, map, structure, Nodes, no_pairs, Fields}
 use Rattle.compact_wire.specs.Bytes.{ByteReader}
 use Rattle.compact_wire.specs.Codes.{code_of}
 use Rattle.compact_wire.specs.declared.header.ListHeader.{ListHeader}
-use Rattle.compact_wire.specs.declared.header.PairKinds.{PairKinds}
-use Rattle.compact_wire.specs.Reads.{scalar, number, signed, most_bytes, element_flag, signed_byte, value, container, items, sequence, list_header, count, element, mapping, map_tail, map_header, mapping_pairs, pairs, all_fields, fits}
-use Rattle.wire_scan.proofs.Seen.{seen_ok, seen_err, seen_made}
-use Rattle.wire_scan.specs.Sizes.{size, sizes, sizes_of_pairs, sizes_of_fields}
-use Rattle.idl_profile.specs.Types.{TypeTree, text, bytes, list_of, set_of, map_of, named, enum_of, struct_of, DefField, kind_of, fields_of}
+use Rattle.compact_wire.specs.Reads.{scalar, number, signed, most_bytes, element_flag, signed_byte, value, container, items, sequence, list_header, count, element, mapping, map_tail, map_header, mapping_pairs, pairs, all_fields}
+use Rattle.wire_scan.proofs.Seen.{seen_ok, seen_err}
+use Rattle.wire_scan.specs.Sizes.{size}
+use Rattle.idl_profile.specs.Types.{TypeTree, text, bytes, list_of, set_of, map_of, named, enum_of, struct_of, kind_of}
 use Rattle.idl_profile.specs.Types.{scalar as scalar_type, flag as flag_type, i8 as i8_type, i16 as i16_type, i32 as i32_type, i64 as i64_type}
-use Rattle.idl_parse.specs.Refs.{element_of, key_of, value_of}
-use Rattle.idl_profile.specs.declared.kinds.TypeKind.{TypeKind}
 use Rattle.idl_profile.specs.declared.kinds.TypeKind.TheVariants as kinds
-use Rattle.typed_reading.specs.declared.fault.NodeFault.{NodeFault}
-use Rattle.typed_reading.specs.declared.fault.NodeFault.TheVariants.{RepeatedField, MissingRequired, WrongType, BadText, RepeatedKey}
-use Rattle.typed_reading.specs.declared.fault.Found.{Found}
+use Rattle.typed_reading.specs.declared.fault.NodeFault.TheVariants.{WrongType, BadText}
 use Rattle.typed_reading.specs.declared.progress.Progress.{Progress}
-use Rattle.typed_reading.specs.Codes.{code, code_of_node, parts_fit, meets, row_fits, pairs_fit}
-use Rattle.typed_reading.specs.Keys.{key_value, keys_in, keys_in_pairs}
-use Rattle.typed_reading.specs.Faults.{bad_text, inner, own, with_below, here, all_here, faults, faults_in, faults_in_pairs, faults_in_fields, of_field, type_in, is_among, ids_after, repeats, lesser, least, missing, has_id, number as number_of}
+use Rattle.typed_reading.specs.Codes.{code, code_of_node, meets}
+use Rattle.typed_reading.specs.Keys.{key_value}
+use Rattle.typed_reading.specs.Faults.{bad_text, here, faults, lesser}
 use Rattle.typed_reading.specs.Marks.{IsLeaf, IsLeafAs}
-use Rattle.typed_reading.specs.Progress.{on, after, key_and_after, after_items, after_set, after_map, inside, skipped, with, Keying, after_key, after_keys, after_value, after_pairs, Fielding, after_field, after_fields}
-use Rattle.typed_reading.proofs.Order.{lesser_three, lesser_none, least_append}
-use Rattle.typed_reading.proofs.Steps.{progress, progress_is, on_none, on_one, on_more, unmet, other_code, same_code, fine_below}
+use Rattle.typed_reading.specs.Progress.{after, key_and_after, inside, with}
+use Rattle.typed_reading.proofs.Steps.{progress, on_none, on_one, unmet, other_code, same_code}
 
 -- ---- scalars
 

@@ -1,5 +1,5 @@
 -- What a field has that nobody gave is a value of its type, where each text of that is one of a kind.
-use Rattle.std.proofs.Common.{◌≡◌, ℕ, ◌+◌, ◌<◌, ◌≤◌, List, [], ◌∷◌, length, refl, ap, arith}
+use Rattle.std.proofs.Common.{◌≡◌, ℕ, ◌+◌, ◌<◌, List, [], ◌∷◌, length, refl, ap, arith}
 use Rattle.std.specs.Prelude.{ℤ, pos, nat_abs, Bool}
 use Rattle.std.specs.Str.{IsUtf8}
 use Rattle.frozen_model.specs.Trees as tree

@@ -1,5 +1,5 @@
 -- A whole struct.
-use Rattle.std.proofs.Common.{◌≡◌, ℕ, List, [], length, ◌-◌, Option, Some, None, Result, Ok, Err, refl, sym, ap, subst, ◌∙◌}
+use Rattle.std.proofs.Common.{◌≡◌, ℕ, List, length, ◌-◌, Ok, Err, refl, sym, ap, ◌∙◌}
 use Rattle.exact_reading.specs.declared.stop.Stop.{Stop}
 use Rattle.exact_reading.specs.declared.stop.Stop.TheVariants.{Ended, Refused}
 use Rattle.exact_reading.specs.declared.stop.ReadError.{ReadError}

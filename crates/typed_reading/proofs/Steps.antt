@@ -1,36 +1,18 @@
 -- What is known behind parts, one after the other.
-use Rattle.std.proofs.Common.{◌||◌, ◌≡◌, ◌≢◌, ◌⊎◌, inl, inr, ℕ, zero, suc, ◌+◌, ◌-◌, ◌*◌, ◌^◌, ◌<◌, ◌≤◌, nat_eq, ◌&&◌, List, [], ◌∷◌, ◌++◌, length, Bool, true, false, cond, Option, Some, None, Result, Ok, Err, refl, sym, ap, subst, ◌∙◌, arith, add-one}
-use Rattle.std.specs.Prelude.{ℤ, find, option_map}
-use Rattle.std.specs.Str.{is_utf8}
+use Rattle.std.proofs.Common.{◌||◌, ◌≡◌, ◌≢◌, ℕ, ◌+◌, ◌<◌, nat_eq, ◌&&◌, List, [], ◌∷◌, ◌++◌, Bool, true, false, Option, Some, refl, sym, ap, ◌∙◌, arith}
+use Rattle.std.specs.Prelude.{ℤ}
 use Rattle.std.proofs.lemmas.Bool.Decides.{nat_tests}
 use Rattle.frozen_model.specs.Values.{Value}
-use Rattle.exact_reading.specs.declared.stop.Stop.{Stop}
-use Rattle.exact_reading.specs.Reading.{◌>>=◌, and_then, pure, one, taken, seen, left}
-use Rattle.exact_reading.proofs.Items.{ok_is, bind_ok}
-use Rattle.compact_wire.specs.declared.kind.Kind.{Kind}
-use Rattle.compact_wire.specs.declared.kind.Kind.TheVariants as k
 use Rattle.compact_wire.specs.Node.{Node, flag, i8, i16, i32, i64, double, binary, list, set, map, structure, Nodes, no_nodes, node, Pairs, no_pairs, pair, Fields, no_fields, field}
-use Rattle.compact_wire.specs.Bytes.{ByteReader}
-use Rattle.compact_wire.specs.Codes.{code_of}
-use Rattle.compact_wire.specs.declared.header.ListHeader.{ListHeader}
-use Rattle.compact_wire.specs.declared.header.PairKinds.{PairKinds}
-use Rattle.compact_wire.specs.Reads.{scalar, number, signed, most_bytes, element_flag, signed_byte, value, container, items, sequence, list_header, count, element, mapping, map_tail, map_header, mapping_pairs, pairs, all_fields, fits}
-use Rattle.wire_scan.proofs.Seen.{seen_ok, seen_err, seen_made}
 use Rattle.wire_scan.specs.Sizes.{size, sizes, sizes_of_pairs, sizes_of_fields}
-use Rattle.idl_profile.specs.Types.{TypeTree, text, bytes, list_of, set_of, map_of, named, enum_of, struct_of, DefField, kind_of, fields_of}
-use Rattle.idl_profile.specs.Types.{scalar as scalar_type, flag as flag_type, i8 as i8_type, i16 as i16_type, i32 as i32_type, i64 as i64_type}
-use Rattle.idl_parse.specs.Refs.{element_of, key_of, value_of}
-use Rattle.idl_profile.specs.declared.kinds.TypeKind.{TypeKind}
-use Rattle.idl_profile.specs.declared.kinds.TypeKind.TheVariants as kinds
-use Rattle.typed_reading.specs.declared.fault.NodeFault.{NodeFault}
-use Rattle.typed_reading.specs.declared.fault.NodeFault.TheVariants.{RepeatedField, MissingRequired, WrongType, BadText, RepeatedKey}
+use Rattle.idl_profile.specs.Types.{TypeTree, DefField}
+use Rattle.typed_reading.specs.declared.fault.NodeFault.TheVariants.{WrongType}
 use Rattle.typed_reading.specs.declared.fault.Found.{Found}
 use Rattle.typed_reading.specs.declared.progress.Progress.{Progress}
-use Rattle.typed_reading.specs.Codes.{code, code_of_node, parts_fit, meets, row_fits, pairs_fit}
+use Rattle.typed_reading.specs.Codes.{code, code_of_node, parts_fit, meets}
 use Rattle.typed_reading.specs.Keys.{key_value, keys_in, keys_in_pairs}
-use Rattle.typed_reading.specs.Faults.{bad_text, inner, own, with_below, here, all_here, faults, faults_in, faults_in_pairs, faults_in_fields, of_field, type_in, is_among, ids_after, repeats, lesser, least, missing, has_id, number as number_of}
-use Rattle.typed_reading.specs.Marks.{IsLeaf, IsLeafAs}
-use Rattle.typed_reading.specs.Progress.{on, after, after_items, after_set, after_map, inside, skipped, with, Keying, after_key, after_keys, after_value, after_pairs, Fielding, after_field, after_fields}
+use Rattle.typed_reading.specs.Faults.{inner, with_below, here, faults, faults_in, faults_in_pairs, faults_in_fields, of_field, type_in, is_among, ids_after, repeats, lesser, least}
+use Rattle.typed_reading.specs.Progress.{on, after, after_items, Keying, after_key, after_keys, after_value, after_pairs, Fielding, after_field, after_fields}
 use Rattle.typed_reading.proofs.Order.{lesser_three, lesser_none, least_append}
 
 abbrev pub progress : Option Found → ℕ → Progress

@@ -1,5 +1,5 @@
 -- Counts and their sums.
-use Rattle.std.proofs.Common.{◌≡◌, ℕ, ◌+◌, ◌≤◌, List, drop, length, Bool, cond, Some, sym, ap, ◌∙◌, arith}
+use Rattle.std.proofs.Common.{◌≡◌, ℕ, ◌+◌, ◌≤◌, List, drop, length, Bool, cond, Some, ap, ◌∙◌, arith}
 use Rattle.std.specs.Prelude.{ℤ, slice_get}
 use Rattle.idl_profile.specs.Types.{DefField}
 use Rattle.typed_reading.specs.Faults.{is_among}

@@ -1,12 +1,11 @@
 -- What is counted over a tree without a fault is the count of its value.
-use Rattle.std.proofs.Common.{◌≡◌, ℕ, suc, ◌+◌, ◌<◌, ◌≤◌, List, [], ◌∷◌, ◌++◌, map, Bool, true, false, ◌||◌, cond, Option, Some, None, refl, sym, ap, subst, ◌∙◌, arith}
+use Rattle.std.proofs.Common.{◌≡◌, ℕ, suc, ◌+◌, ◌≤◌, List, [], ◌∷◌, ◌++◌, map, Bool, true, false, ◌||◌, cond, Option, Some, None, refl, sym, ap, subst, ◌∙◌, arith}
 use Rattle.std.specs.Prelude.{ℤ, nat_abs, find, option_map}
 use Rattle.std.specs.List.{AllByRecursion, sum_by}
 use Rattle.std.specs.Ordering.{int_eq}
 use Rattle.std.proofs.lemmas.List.Sums.{sum_by-cons}
-use Rattle.frozen_model.specs.Trees as tree
-use Rattle.frozen_model.specs.Trees.{KindTree, KindTrees, Struct, Field, NoField, Rising}
-use Rattle.frozen_model.specs.Values.{Value, Truth, Number, One, Bytes, Present, cells, cells_each, cells_all}
+use Rattle.frozen_model.specs.Trees.{KindTree, Rising}
+use Rattle.frozen_model.specs.Values.{Value, Truth, Number, One, Bytes, cells, cells_each, cells_all}
 use Rattle.compact_wire.specs.Node.{Node, flag, i8, i16, i32, i64, double, binary, list, set, map as map_node, structure}
 use Rattle.compact_wire.specs.Node.{Nodes, no_nodes, node, Pairs, no_pairs, pair, Fields as WireFields, no_fields as no_more, field as wire_field}
 use Rattle.wire_scan.specs.Sizes.{size}
@@ -19,10 +18,8 @@ use Rattle.type_kinds.specs.KindsOf.{kinds_of, kinds_of_fields}
 use Rattle.type_kinds.specs.Defaults.{ids_of_fields}
 use Rattle.type_kinds.specs.Accepted.{IsAccepted, AreAccepted}
 use Rattle.type_kinds.specs.Laws.{Any}
-use Rattle.typed_tree.specs.Spots.{pair as pair_of}
 use Rattle.typed_tree.specs.Sizes.{field_kinds, nodes_of, nodes_of_all, nodes_of_parts, nodes_of_pairs, bytes_of, bytes_of_all, default_value}
 use Rattle.typed_reading.specs.declared.counts.Checked.{Checked}
-use Rattle.typed_reading.specs.declared.fault.Found.{Found}
 use Rattle.typed_reading.specs.Faults.{has_id, type_of_field, type_in, is_among, ids_after, faults, faults_in, faults_in_pairs, faults_in_fields, of_field, repeats}
 use Rattle.typed_reading.specs.Keys.{keys_in, keys_in_pairs}
 use Rattle.typed_reading.specs.Meaning.{given, under, field_value, reading, meaning, meanings, meanings_of_pairs, readings}

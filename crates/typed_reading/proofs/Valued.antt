@@ -1,8 +1,7 @@
 -- A spelled tree with no fault is read as a value of its type.
-use Rattle.std.proofs.Common.{◌≡◌, ◌≢◌, ℕ, zero, suc, ◌+◌, ◌<◌, ◌≤◌, List, [], ◌∷◌, ◌++◌, length, map, Bool, true, false, cond, Option, Some, None, refl, sym, ap, subst, ◌∙◌, arith, inl, inr}
-use Rattle.std.specs.Prelude.{ℤ, pos, negsuc, nat_abs, find, option_map, nat_eq}
-use Rattle.std.specs.List.{AllByRecursion, All, AllPairs, Contains, sum_by}
-use Rattle.std.specs.List.Sorted.{IsPermutation}
+use Rattle.std.proofs.Common.{◌≡◌, ◌≢◌, ℕ, suc, ◌+◌, ◌≤◌, List, [], ◌∷◌, ◌++◌, length, map, Bool, true, false, cond, Option, Some, None, refl, sym, ap, subst, ◌∙◌, arith}
+use Rattle.std.specs.Prelude.{ℤ, pos, negsuc, nat_abs, nat_eq}
+use Rattle.std.specs.List.{AllByRecursion, AllPairs, sum_by}
 use Rattle.std.specs.Ordering.{int_eq}
 use Rattle.std.proofs.lemmas.Bool.{and_parts, or_parts}
 use Rattle.std.proofs.lemmas.Bool.Decides.{Decides-int_eq, nat_tests}
@@ -10,7 +9,6 @@ use Rattle.std.proofs.lemmas.List.Elements.{All-from_recursion, recursion_from_A
 use Rattle.std.proofs.lemmas.List.Sorted.{All-permutation, length_permutation, sum_by-IsPermutation}
 use Rattle.std.proofs.lemmas.List.Sums.{sum_by-cons}
 use Rattle.std.proofs.lemmas.Slice.Eq.{bytes_eq-Decides}
-use Rattle.std.specs.Str.{bytes_eq}
 use Rattle.std.proofs.lemmas.List.Kept.{AllPairs-cons}
 use Rattle.std.proofs.lemmas.Str.{IsUtf8-from_is_utf8}
 use Rattle.std.specs.Str.{is_utf8, IsUtf8}
@@ -20,17 +18,16 @@ use Rattle.frozen_model.specs.Values.{Value, Values, Atom, Truth, Number, IsOf, 
 use Rattle.frozen_model.specs.Values.{Of, OfEach, OfAll, one, items, absent, present, record_of, none, more, no_part, part, cells, cells_each, cells_all, cell_limit}
 use Rattle.frozen_model.specs.Values as value
 use Rattle.compact_wire.specs.Node.{Node, flag, i8, i16, i32, i64, double, binary, list, set, map as map_node, structure}
-use Rattle.compact_wire.specs.Node.{Nodes, no_nodes, node, Pairs, no_pairs, pair, Fields as WireFields, no_fields as no_more, field as wire_field}
+use Rattle.compact_wire.specs.Node.{Nodes, no_nodes, node, Pairs, no_pairs, pair, Fields as WireFields}
 use Rattle.compact_wire.specs.Number.{zigzag}
 use Rattle.compact_wire.specs.Bytes.{AreBytes}
 use Rattle.compact_wire.specs.Codes.{code_of}
 use Rattle.compact_wire.specs.declared.kind.Kind.{Kind}
 use Rattle.compact_wire.specs.declared.kind.Kind.TheVariants as k
-use Rattle.compact_wire.specs.Spells.{IsSignedByte, IsListHeader, short_list_header, long_list_header, IsFieldCode, true_code, false_code, other_code}
+use Rattle.compact_wire.specs.Spells.{IsSignedByte, IsListHeader, short_list_header, long_list_header}
 use Rattle.compact_wire.specs.Spells.{Spells, is_true, is_false, is_i8, is_i16, is_i32, is_i64, is_double, is_binary, is_list, is_set, is_no_map, is_map, is_struct}
 use Rattle.compact_wire.specs.Spells.{SpellsItems, no_items, item, SpellsPairs, no_pair, one_pair, SpellsFields, the_end, flag_field, other_field, SpellsWire}
 use Rattle.wire_scan.specs.Sizes.{size}
-use Rattle.idl_profile.specs.declared.kinds.Need.{Need}
 use Rattle.idl_profile.specs.declared.kinds.Need.TheVariants.{Plain, Required, Optional}
 use Rattle.idl_profile.specs.Types.{TypeTree, scalar, text, bytes, list_of, set_of, map_of, named, Named, enum_of, struct_of, Fields, no_fields, field, DefField, Default, Member, field_list, fields_of}
 use Rattle.idl_profile.specs.Types as type
@@ -39,18 +36,16 @@ use Rattle.key_order.specs.Keys.{AreOneKind, IsOneKind}
 use Rattle.key_order.specs.InOrder.{row, in_order}
 use Rattle.key_order.proofs.Insertion.{order_moves, order_rises}
 use Rattle.type_kinds.specs.KindsOf.{kinds_of, kinds_of_fields}
-use Rattle.type_kinds.specs.Defaults.{default_of, defaults_of, written, ids_of_fields}
-use Rattle.type_kinds.specs.Accepted.{IsAccepted, AreAccepted, IsWritten, IsTextDefault, IsKeyType, HasShortTexts}
+use Rattle.type_kinds.specs.Defaults.{default_of, written, ids_of_fields}
+use Rattle.type_kinds.specs.Accepted.{IsAccepted, AreAccepted, IsTextDefault, IsKeyType, HasShortTexts}
 use Rattle.type_kinds.proofs.Forms.{accepted_short}
-use Rattle.typed_tree.specs.Spots.{pair as pair_of}
-use Rattle.typed_tree.specs.Sizes.{default_value}
-use Rattle.typed_tree.specs.Filled.{natural_ids, struct_with}
+use Rattle.typed_tree.specs.Filled.{natural_ids}
 use Rattle.typed_reading.specs.declared.fault.NodeFault.{NodeFault}
-use Rattle.typed_reading.specs.declared.fault.NodeFault.TheVariants.{RepeatedField, MissingRequired, WrongType, BadText, RepeatedKey}
+use Rattle.typed_reading.specs.declared.fault.NodeFault.TheVariants.{WrongType, BadText, RepeatedKey}
 use Rattle.typed_reading.specs.declared.fault.Found.{Found}
 use Rattle.typed_reading.specs.Codes.{code, code_of_node, meets, parts_fit}
 use Rattle.typed_reading.specs.Keys.{same_key, key_value, keys_in, keys_in_pairs}
-use Rattle.typed_reading.specs.Faults.{has_id, type_of_field, type_in, is_among, bad_text, inner, own, here, all_here, if_here, is_key_among, repeats, with_below, of_field, faults, faults_in, faults_in_pairs, faults_in_fields}
+use Rattle.typed_reading.specs.Faults.{type_in, is_among, bad_text, inner, own, all_here, if_here, is_key_among, repeats, with_below, of_field, faults, faults_in, faults_in_pairs, faults_in_fields}
 use Rattle.typed_reading.specs.Meaning.{given, under, field_value, reading, meaning, meanings, meanings_of_pairs, readings, Typed}
 use Rattle.typed_reading.proofs.OwnValues.{short_text, ids_kept, field_valued}
 

@@ -60,7 +60,12 @@ pub record IsOnlyCaused (t : TypeTree) (b : List ℕ) (r : Result (Unit {0}) Val
   pub faulty : (n : ℕ) (k : NodeFault) → IsLeastFault t b n k → OrMemory r (Err (fault_at n k))
   pub value : (w : Node) → IsValue t b w → OrMemory r (Ok tt)
 
--- ---- checking: looking for faults, and then counting
+-- ---- checking: looking for faults, and counting
+
+-- an answer without what was counted
+abbrev pub uncounted : Result Checked ValueFault → Result (Unit {0}) ValueFault
+uncounted (Ok c) = Ok tt
+uncounted (Err f) = Err f
 
 -- the cause of an answer of checking
 abbrev pub IsChecked : TypeTree → List ℕ → Result Checked ValueFault → Type 0

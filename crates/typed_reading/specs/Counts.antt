@@ -1,6 +1,6 @@
 -- The cells, the nodes and the bytes of the value of a wire tree, as they are counted over the tree.
-use Rattle.std.specs.Prelude.{◌≡◌, ℕ, ◌+◌, max, List, [], ◌∷◌, length, ℤ, Option, Some, None, cond, nat_eq, find}
-use Rattle.frozen_model.specs.Values.{Value, cells}
+use Rattle.std.specs.Prelude.{◌≡◌, ℕ, ◌+◌, max, List, [], ◌∷◌, length, ℤ, Option, Some, None, Result, Ok, cond, nat_eq, find}
+use Rattle.frozen_model.specs.Values.{cells}
 use Rattle.compact_wire.specs.Node.{Node, binary, list, set, map, structure, Nodes, no_nodes, node}
 use Rattle.compact_wire.specs.Node.{Pairs, no_pairs, pair, Fields, no_fields, field}
 use Rattle.idl_profile.specs.Types.{TypeTree, DefField, fields_of}
@@ -10,7 +10,9 @@ use Rattle.idl_parse.specs.Refs.{element_of, key_of, value_of}
 use Rattle.type_kinds.specs.KindsOf.{kinds_of}
 use Rattle.typed_tree.specs.Rooms.{room_of}
 use Rattle.typed_tree.specs.Sizes.{capped, capped_room, used_by, nodes_of, bytes_of, default_value, cells_of_default}
+use Rattle.exact_reading.specs.declared.stop.Stop.{Stop}
 use Rattle.typed_reading.specs.declared.counts.Checked.{Checked}
+use Rattle.typed_reading.specs.declared.progress.Progress.{Progress}
 use Rattle.typed_reading.specs.Codes.{code, code_of_node}
 use Rattle.typed_reading.specs.Faults.{has_id, is_among, ids_after}
 use Rattle.typed_reading.specs.Meaning.{meaning}
@@ -139,6 +141,10 @@ counted_field fs s id x = (grown s.0 (of_known (find (has_id id) fs) (total x)),
 
 abbrev pub counted_fields : List DefField → Counting → Fields → Counting
 counted_fields fs s xs = (grown s.0 (totals_of_fields xs fs), ids_after xs s.1)
+
+-- where no fault was found, what is read counts to these sums, with that rest behind it
+abbrev pub IsCount : Progress → Checked → List ℕ → Result (Checked × List ℕ) Stop → Type 0
+IsCount known sums rest read = known.found ≡ None → read ≡ Ok (sums, rest)
 
 -- a list or a set is made of items
 abbrev pub IsHolder : TypeTree → (ℕ → Nodes → Node) → Type 0

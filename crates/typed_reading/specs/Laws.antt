@@ -1,5 +1,5 @@
 -- The law of typed reading.
-use Rattle.std.specs.Prelude.{◌≡◌, ℕ, List, []}
+use Rattle.std.specs.Prelude.{ℕ, List}
 use Rattle.std.specs.Str.{IsUtf8}
 use Rattle.compact_wire.specs.Node.{Node}
 use Rattle.compact_wire.specs.Spells.{SpellsWire}

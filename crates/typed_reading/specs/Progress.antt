@@ -1,5 +1,5 @@
 -- What reading on over a value makes of the least fault so far and the number of the next node.
-use Rattle.std.specs.Prelude.{ℕ, ◌+◌, List, [], ◌∷◌, ◌++◌, ℤ, Option, Some, None}
+use Rattle.std.specs.Prelude.{ℕ, ◌+◌, List, [], ◌∷◌, ◌++◌, ℤ, Some, None}
 use Rattle.frozen_model.specs.Values.{Value}
 use Rattle.compact_wire.specs.Node.{Node, Nodes, Pairs, Fields}
 use Rattle.wire_scan.specs.Sizes.{size, sizes, sizes_of_pairs, sizes_of_fields}

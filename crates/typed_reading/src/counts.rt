@@ -1,16 +1,20 @@
 //! Counts of the cells, the nodes and the bytes of a value.
 
 ghost use Rattle.std.specs.Prelude.{◌≡◌, ℤ, List, drop};
-ghost use Rattle.idl_profile.specs.Types.{kind_of, fields_of};
+ghost use Rattle.compact_wire.specs.Node.{Node};
+ghost use Rattle.idl_profile.specs.Types.{TypeTree, kind_of, fields_of};
 ghost use Rattle.idl_profile.specs.declared.kinds.TypeKind.{TypeKind};
 ghost use Rattle.idl_parse.specs.Refs.{type_of_ref, field_of_ref};
+ghost use Rattle.key_order.specs.Keys.{value_of};
 ghost use Rattle.type_kinds.specs.Accepted.{IsAccepted};
 ghost use Rattle.type_kinds.specs.Laws.{Any};
-ghost use Rattle.typed_reading.specs.Counts.{count_of, grown, some_bytes as bytes_count, a_scalar, a_holder, an_item, a_struct, by_need as need_count, default_count as count_of_default, defaults_beside};
-ghost use Rattle.typed_reading.specs.Marks.{Marked};
+ghost use Rattle.typed_reading.specs.Counts.{count_of, grown, some_bytes as bytes_count, a_scalar, a_holder, an_item, a_struct, by_need as need_count, default_count as count_of_default, defaults_beside, total};
+ghost use Rattle.typed_reading.specs.Keys.{key_value};
+ghost use Rattle.typed_reading.specs.Marks.{Marked, IsLeafAs};
 
 use crate::fields::is_marked;
-use idl_parse::{FieldRef, Need, TypeRef};
+use key_order::Key;
+use thrift_idl::{FieldRef, Need, TypeRef};
 use typed_tree::{Room, default_cells, default_room};
 
 /// How many cells a value has, and the room that a tree of it takes. A number above 2^64 - 1 is told as that.
@@ -68,6 +72,19 @@ pub fn with_bytes(count: Checked, len: usize) -> Checked
 {
     let bytes = len as u64;
     plus(count, counts(bytes.saturating_add(2), 1, bytes))
+}
+
+/// With a key.
+#[inline(always)]
+pub fn with_key(count: Checked, key: Key<'_>) -> Checked
+    ensures { (t : TypeTree) (w : Node) → IsLeafAs t w → key_value w ≡ value_of key.entry
+        → result ≡ grown count (total w t) }
+{
+    match key {
+        Key::Bytes(x) => with_bytes(count, x.len()),
+        Key::Number(_) => with_scalar(count),
+        Key::Flag(_) => with_scalar(count),
+    }
 }
 
 /// With a list, a set or a map, without its items.

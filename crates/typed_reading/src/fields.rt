@@ -10,8 +10,8 @@ ghost use Rattle.type_kinds.specs.Laws.{Any};
 ghost use Rattle.typed_reading.specs.Faults.{missing, is_required as required};
 ghost use Rattle.typed_reading.specs.Marks.{place_in, Marked, listed};
 
-use idl_parse::{FieldRef, Need, TypeRef};
 use std::alloc::AllocError;
+use thrift_idl::{FieldRef, Need, TypeRef};
 
 #[inline]
 fn has_id(field: FieldRef<'_>, id: i16) -> bool

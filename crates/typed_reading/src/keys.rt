@@ -1,6 +1,6 @@
 //! The items of sets and the keys of maps.
 
-ghost use Rattle.std.specs.Prelude.{◌≡◌, ◌+◌, ◌<◌, ◌≤◌, ◌^◌, [], length, IfOk};
+ghost use Rattle.std.specs.Prelude.{◌≡◌, ◌+◌, ◌<◌, ◌≤◌, ◌^◌, [], length, IfOk, OnOk, Ok};
 ghost use Rattle.exact_reading.specs.Reading.{Meets, Gives, seen};
 ghost use Rattle.compact_wire.specs.Codes.{code_of as wire_code};
 ghost use Rattle.compact_wire.specs.Node.{Node};
@@ -10,22 +10,25 @@ ghost use Rattle.idl_parse.specs.Refs.{type_of_ref};
 ghost use Rattle.key_order.specs.Keys.{value_of};
 ghost use Rattle.key_order.specs.Entries.{placed};
 ghost use Rattle.typed_reading.specs.Codes.{code as type_code};
+ghost use Rattle.typed_reading.specs.Counts.{counted, counted_items, IsCount};
 ghost use Rattle.typed_reading.specs.Faults.{lesser, least, repeats};
 ghost use Rattle.typed_reading.specs.Keys.{key_value};
 ghost use Rattle.typed_reading.specs.Progress.{after, key_and_after, after_set};
 ghost use Rattle.typed_reading.specs.Marks.{Climbs, IsKeyKind, IsLeafAs};
 
+use crate::counts::{Checked, with_item, with_key};
 use crate::fault::NodeFault;
-use crate::progress::{Progress, inside, with, with_found};
+use crate::progress::{Progress, note_fault, note_found, pass_node};
 use crate::texts::is_text;
 use compact_wire::{Kind, read_i16, read_i32, read_i64, read_number, read_taken};
 use exact_reading::{ReadError, Stop};
-use idl_parse::{TypeKind, TypeRef};
 use key_order::{Key, PlacedKey, least_repeat};
 use std::alloc::Global;
+use thrift_idl::{TypeKind, TypeRef};
 
 /// A key of a kind, and the bytes after it.
 #[tactic(auto, unfolding(compact_wire::specs::Reads::scalar, compact_wire::specs::Reads::element_flag, compact_wire::specs::Reads::signed_byte))]
+#[inline(always)]
 pub fn read_key(kind: Kind, bytes: &[u8]) -> Result<(Key<'_>, &[u8]), Stop>
     requires { IsKeyKind kind }
     ensures reads { Meets (λ x. (value_of x.0, x.1.now)) result (seen key_value (scalar kind bytes.now)) }
@@ -70,70 +73,79 @@ pub fn read_key(kind: Kind, bytes: &[u8]) -> Result<(Key<'_>, &[u8]), Stop>
 }
 
 /// Behind a key of a text's type.
-fn behind_text(key: Key<'_>, so_far: Progress) -> Progress
-    requires { so_far.next + 1 < 2 ^ 64 }
-    ensures { (w : Node) → IsLeafAs text w → key_value w ≡ value_of key.entry → result ≡ after text so_far w }
+fn behind_text(key: Key<'_>, progress: &mut Progress)
+    requires { progress.old.next + 1 < 2 ^ 64 }
+    ensures { (w : Node) → IsLeafAs text w → key_value w ≡ value_of key.entry
+        → progress.new ≡ after text progress.old w }
 {
     match key {
         Key::Bytes(x) => {
             if is_text(x) {
-                inside(so_far)
+                pass_node(progress)
             } else {
-                with(so_far, NodeFault::BadText, so_far.next + 1)
+                let next = progress.next + 1;
+                note_fault(progress, NodeFault::BadText, next)
             }
         }
-        Key::Number(_) => inside(so_far),
-        Key::Flag(_) => inside(so_far),
+        Key::Number(_) => pass_node(progress),
+        Key::Flag(_) => pass_node(progress),
     }
 }
 
 /// Behind a key of the type.
 #[inline]
-fn behind_key(ty: TypeRef<'_>, key: Key<'_>, so_far: Progress) -> Progress
-    requires { so_far.next + 1 < 2 ^ 64 }
+fn behind_key(ty: TypeRef<'_>, key: Key<'_>, progress: &mut Progress)
+    requires { progress.old.next + 1 < 2 ^ 64 }
     ensures { (w : Node) → IsLeafAs (type_of_ref ty.entry) w → key_value w ≡ value_of key.entry
-        → result ≡ after (type_of_ref ty.entry) so_far w }
+        → progress.new ≡ after (type_of_ref ty.entry) progress.old w }
 {
     match ty.kind() {
-        TypeKind::Text => behind_text(key, so_far),
-        _ => inside(so_far),
+        TypeKind::Text => behind_text(key, progress),
+        _ => pass_node(progress),
     }
 }
 
-/// A key of a key's type with the number of its node, the progress behind it, and the bytes after it.
+/// A key of a key's type with the number of its node, told to the progress, and the bytes after it.
 #[inline(always)]
 pub fn check_key<'a>(
     ty: TypeRef<'_>,
     kind: Kind,
     bytes: &'a [u8],
-    so_far: Progress,
-) -> Result<(PlacedKey<'a>, Progress, &'a [u8]), Stop>
-    requires room { so_far.next + length bytes.now + 1 < 2 ^ 64 }
+    progress: &mut Progress,
+    sums: &mut Checked,
+) -> Result<(PlacedKey<'a>, &'a [u8]), Stop>
+    requires room { progress.old.next + length bytes.now + 1 < 2 ^ 64 }
     requires kind { IsKeyKind kind }
     requires code { wire_code kind ≡ type_code (type_of_ref ty) }
-    ensures reads { Meets (λ x. ((x.1, (x.0.place, value_of x.0.key)), x.2.now)) result
-        (seen (key_and_after (type_of_ref ty.entry) so_far) (scalar kind bytes.now)) }
-    ensures room { IfOk result (λ x. x.1.next + length x.2.now ≤ so_far.next + length bytes.now) }
-    ensures next { IfOk result (λ x. x.1.next ≡ so_far.next + 1) }
-    ensures place { IfOk result (λ x. x.0.place ≡ so_far.next) }
+    ensures reads { Meets (λ x. ((progress.new, (x.0.place, value_of x.0.key)), x.1.now)) result
+        (seen (key_and_after (type_of_ref ty.entry) progress.old) (scalar kind bytes.now)) }
+    ensures room { IfOk result (λ x.
+        progress.new.next + length x.1.now ≤ progress.old.next + length bytes.now) }
+    ensures counts { IfOk result (λ x.
+        seen (counted (type_of_ref ty.entry) sums.old) (scalar kind bytes.now) ≡ Ok (sums.new, x.1.now)) }
+    ensures next { OnOk result (progress.new.next ≡ progress.old.next + 1) }
+    ensures place { IfOk result (λ x. x.0.place ≡ progress.old.next) }
 {
     let (key, rest) = read_key(kind, bytes)?;
-    let place = so_far.next;
-    Ok((PlacedKey { key, place }, behind_key(ty, key, so_far), rest))
+    let place = progress.next;
+    behind_key(ty, key, progress);
+    *sums = with_key(*sums, key);
+    Ok((PlacedKey { key, place }, rest))
 }
 
-/// With the least fault of keys that repeat.
-pub fn with_repeat(known: Progress, keys: &mut [PlacedKey<'_>]) -> Progress
-    requires { Climbs 0 known.next (placed keys.old) }
-    ensures { result ≡ record { found = lesser known.found (least (repeats (placed keys.old) [])); next = known.next } }
+/// Notes the least fault of keys that repeat.
+pub fn note_repeat(progress: &mut Progress, keys: &mut [PlacedKey<'_>])
+    requires { Climbs 0 progress.old.next (placed keys.old) }
+    ensures { progress.new ≡
+        record { found = lesser progress.old.found (least (repeats (placed keys.old) [])); next = progress.old.next } }
 {
     match least_repeat(keys) {
-        Some(repeat) => with_found(known, repeat.second, NodeFault::RepeatedKey, known.next),
-        None => known,
+        Some(repeat) => note_found(progress, repeat.second, NodeFault::RepeatedKey),
+        None => {}
     }
 }
 
-/// So many items of a set.
+/// So many items of a set, told to the progress and counted.
 pub fn check_set_items<'a>(
     alloc: Global,
     ty: TypeRef<'_>,
@@ -141,22 +153,26 @@ pub fn check_set_items<'a>(
     kind: Kind,
     count: u64,
     bytes: &'a [u8],
-    so_far: Progress,
-) -> Result<(Progress, &'a [u8]), ReadError<Stop>>
-    requires room { so_far.next + length bytes.now + 1 < 2 ^ 64 }
+    progress: &mut Progress,
+    sums: &mut Checked,
+) -> Result<&'a [u8], ReadError<Stop>>
+    requires room { progress.old.next + length bytes.now + 1 < 2 ^ 64 }
     requires kind { 0 < count → IsKeyKind kind × (wire_code kind ≡ type_code (type_of_ref ty)) }
-    ensures reads { Gives (λ x. (x.0, x.1.now)) result
-        (seen (after_set (type_of_ref ty.entry) so_far) (items (value levels kind) count bytes.now)) }
-    ensures room { IfOk result (λ x. x.0.next + length x.1.now ≤ so_far.next + length bytes.now) }
+    ensures reads { Gives (λ x. (progress.new, x.now)) result
+        (seen (after_set (type_of_ref ty.entry) progress.old) (items (value levels kind) count bytes.now)) }
+    ensures counts { IfOk result (λ x. IsCount progress.new sums.new x.now
+        (seen (counted_items (type_of_ref ty.entry) sums.old) (items (value levels kind) count bytes.now))) }
+    ensures room { IfOk result (λ x.
+        progress.new.next + length x.now ≤ progress.old.next + length bytes.now) }
 {
     let mut keys = Vec::new(alloc);
-    let mut known = so_far;
     let mut rest = bytes;
     for _ in 0..count {
-        let (key, last, behind) = check_key(ty, kind, rest, known)?;
+        *sums = with_item(*sums);
+        let (key, behind) = check_key(ty, kind, rest, progress, sums)?;
         keys.push(key)?;
-        known = last;
         rest = behind;
     }
-    Ok((with_repeat(known, keys.as_mut_slice()), rest))
+    note_repeat(progress, keys.as_mut_slice());
+    Ok(rest)
 }

@@ -2,7 +2,6 @@
 #![tactic(auto)]
 
 mod checking;
-mod counting;
 mod counts;
 mod fault;
 mod fields;

@@ -3,7 +3,7 @@
 ghost use Rattle.std.specs.Prelude.{◌≡◌, ◌+◌, ◌<◌, ◌^◌, Some};
 ghost use Rattle.typed_reading.specs.Faults.{lesser, here, least, all_here, number as number_of};
 ghost use Rattle.typed_reading.specs.Marks.{listed};
-ghost use Rattle.typed_reading.specs.Progress.{inside as inside_of, with as with_fault, skipped as skipped_to};
+ghost use Rattle.typed_reading.specs.Progress.{inside, with, skipped};
 
 use crate::fault::{Found, NodeFault};
 
@@ -43,55 +43,51 @@ fn lesser_of(known: Option<Found>, other: Found) -> Option<Found>
     known
 }
 
-/// Behind a node without faults of its own.
+/// Goes past a node without faults of its own.
 #[inline(always)]
-pub fn inside(so_far: Progress) -> Progress
-    requires { so_far.next + 1 < 2 ^ 64 }
-    ensures { result ≡ inside_of so_far }
+pub fn pass_node(progress: &mut Progress)
+    requires { progress.old.next + 1 < 2 ^ 64 }
+    ensures { progress.new ≡ inside progress.old }
 {
-    Progress {
-        found: so_far.found,
-        next: so_far.next + 1,
-    }
+    progress.next += 1;
 }
 
-/// Behind nodes that are not looked at.
-#[inline]
-pub fn skipped(so_far: Progress, next: u64) -> Progress
-    ensures { result ≡ skipped_to so_far next }
+/// Goes past nodes that are not looked at.
+#[inline(always)]
+pub fn pass_to(progress: &mut Progress, next: u64)
+    ensures { progress.new ≡ skipped progress.old next }
 {
-    Progress {
-        found: so_far.found,
-        next,
-    }
+    progress.next = next;
 }
 
-/// With a fault at the node where the progress stands, and then at the node `next`.
-pub fn with(so_far: Progress, fault: NodeFault, next: u64) -> Progress
-    ensures { result ≡ with_fault so_far fault next }
-{
-    with_found(so_far, so_far.next, fault, next)
-}
-
-/// With a fault at a node, and then at the node `next`.
+/// Notes a fault at the node where the progress stands, and goes on at the node `next`.
 #[inline(never)]
-pub fn with_found(so_far: Progress, node: u64, fault: NodeFault, next: u64) -> Progress
-    ensures { result ≡ record { found = lesser so_far.found (Some (here node fault)); next = next } }
+pub fn note_fault(progress: &mut Progress, fault: NodeFault, next: u64)
+    ensures { progress.new ≡ with progress.old fault next }
 {
-    Progress {
-        found: lesser_of(so_far.found, Found { node, fault }),
-        next,
-    }
+    let node = progress.next;
+    note_found(progress, node, fault);
+    progress.next = next;
 }
 
-/// With the fault of a struct that lacks a field.
+/// Notes a fault at a node.
+#[inline(never)]
+pub fn note_found(progress: &mut Progress, node: u64, fault: NodeFault)
+    ensures { progress.new ≡
+        record { found = lesser progress.old.found (Some (here node fault)); next = progress.old.next } }
+{
+    progress.found = lesser_of(progress.found, Found { node, fault });
+}
+
+/// Notes the fault of a struct that lacks a field.
 #[tactic(auto, using(crate::proofs::Order::lesser_none))]
 #[inline(always)]
-pub fn with_missing(known: Progress, node: u64, missing: Option<i16>) -> Progress
-    ensures { result ≡ record { found = lesser known.found (least (all_here node (listed missing))); next = known.next } }
+pub fn note_missing(progress: &mut Progress, node: u64, missing: Option<i16>)
+    ensures { progress.new ≡
+        record { found = lesser progress.old.found (least (all_here node (listed missing))); next = progress.old.next } }
 {
     match missing {
-        Some(id) => with_found(known, node, NodeFault::MissingRequired(id), known.next),
-        None => known,
+        Some(id) => note_found(progress, node, NodeFault::MissingRequired(id)),
+        None => {}
     }
 }

@@ -7,7 +7,7 @@ ghost use Rattle.typed_reading.specs.Codes.{code as type_code};
 ghost use Rattle.typed_reading.specs.Progress.{kind_code as code_of_kind};
 
 use compact_wire::{Kind, PairKinds, code_of};
-use idl_parse::{TypeKind, TypeRef};
+use thrift_idl::{TypeKind, TypeRef};
 
 #[inline]
 fn kind_code(kind: TypeKind) -> u8

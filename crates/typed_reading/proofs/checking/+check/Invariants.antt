@@ -1,4 +1,4 @@
-use Rattle.std.proofs.Common.{◌≡◌, ◌+◌, ◌-◌, ◌*◌, ◌≤◌, length, List, [], take, drop}
+use Rattle.std.proofs.Common.{None, ◌≡◌, ◌+◌, ◌-◌, ◌*◌, ◌≤◌, length, List, [], take, drop}
 use Rattle.std.specs.Prelude.{ℤ}
 use Rattle.compact_wire.specs.Reads.{items, pairs, value, all_fields}
 use Rattle.idl_profile.specs.Types.{fields_of}
@@ -6,8 +6,10 @@ use Rattle.idl_parse.specs.Refs.{type_of_ref}
 use Rattle.exact_reading.specs.Reading.{seen}
 use Rattle.key_order.specs.Entries.{placed}
 use Rattle.wire_scan.proofs.Seen.{Reading}
-use Rattle.typed_reading.specs.Progress.{after_items, after_pairs, after_field, after_fields, inside}
+use Rattle.typed_reading.specs.Counts.{counted_items, counted_pairs, counted_field, counted_fields}
+use Rattle.typed_reading.specs.Progress.{after_items, after_pairs, after_field, after_fields}
 use Rattle.typed_reading.specs.Marks.{Marked, Climbs}
+use Rattle.typed_reading.proofs.CountSteps.{no_field_counted, field_counted}
 use Rattle.typed_reading.proofs.Steps.{no_more_fields, one_more_field}
 use Rattle.typed_reading.proofs.checking.+check.Given as goal
 
@@ -37,27 +39,35 @@ decreases-check_struct l = 5 * l.levels + 3
 
 abbrev pub invariant-check_items-loop : goal.invariant-check_items-loop
 invariant-check_items-loop l =
-    (seen (after_items (type_of_ref l.ty) l.known) (items (value l.levels l.kind) (l.count - l.counter) l.rest)
-    ≡ seen (after_items (type_of_ref l.ty) l.initial.known) (items (value l.levels l.kind) l.count l.bytes))
-    × (l.known.next + length l.rest ≤ l.initial.known.next + length l.bytes)
+    (seen (after_items (type_of_ref l.ty) l.progress) (items (value l.levels l.kind) (l.count - l.counter) l.rest)
+    ≡ seen (after_items (type_of_ref l.ty) l.initial.progress) (items (value l.levels l.kind) l.count l.bytes))
+    × (l.progress.next + length l.rest ≤ l.initial.progress.next + length l.bytes)
     × (l.marks.items ≡ l.initial.marks.items)
+    × (l.progress.found ≡ None → seen (counted_items (type_of_ref l.ty) l.sums) (items (value l.levels l.kind) (l.count - l.counter) l.rest)
+    ≡ seen (counted_items (type_of_ref l.ty) l.initial.sums) (items (value l.levels l.kind) l.count l.bytes))
 
 abbrev pub invariant-check_pairs-loop : goal.invariant-check_pairs-loop
 invariant-check_pairs-loop l =
-    (seen (after_pairs (type_of_ref l.key_type) (type_of_ref l.value_type) (l.known, placed l.keys.items))
+    (seen (after_pairs (type_of_ref l.key_type) (type_of_ref l.value_type) (l.progress, placed l.keys.items))
     (pairs (value l.levels l.kinds.key) (value l.levels l.kinds.value) (l.count - l.counter) l.rest)
-    ≡ seen (after_pairs (type_of_ref l.key_type) (type_of_ref l.value_type) (l.initial.known, []))
+    ≡ seen (after_pairs (type_of_ref l.key_type) (type_of_ref l.value_type) (l.initial.progress, []))
     (pairs (value l.levels l.kinds.key) (value l.levels l.kinds.value) l.count l.bytes))
-    × (l.known.next + length l.rest ≤ l.initial.known.next + length l.bytes)
+    × (l.progress.next + length l.rest ≤ l.initial.progress.next + length l.bytes)
     × (l.marks.items ≡ l.initial.marks.items)
-    × Climbs 0 l.known.next (placed l.keys.items)
+    × Climbs 0 l.progress.next (placed l.keys.items)
+    × (l.progress.found ≡ None → seen (counted_pairs (type_of_ref l.key_type) (type_of_ref l.value_type) l.sums)
+    (pairs (value l.levels l.kinds.key) (value l.levels l.kinds.value) (l.count - l.counter) l.rest)
+    ≡ seen (counted_pairs (type_of_ref l.key_type) (type_of_ref l.value_type) l.initial.sums)
+    (pairs (value l.levels l.kinds.key) (value l.levels l.kinds.value) l.count l.bytes))
 
 abbrev pub invariant-check_struct-fields : goal.invariant-check_struct-fields
 invariant-check_struct-fields l =
     ((ids : List ℤ) × Marked (fields_of (type_of_ref l.ty)) (drop l.base l.marks.items) ids
-    × Reading (after_field (fields_of (type_of_ref l.ty))) (after_fields (fields_of (type_of_ref l.ty))) (no_more_fields (fields_of (type_of_ref l.ty))) (one_more_field (fields_of (type_of_ref l.ty))) l.levels (l.known, ids) l.before.id l.rest
-    (seen (after_fields (fields_of (type_of_ref l.ty)) (inside l.so_far, [])) (all_fields l.levels (value l.levels) l.bytes)))
-    × (l.known.next + length l.rest ≤ l.so_far.next + length l.bytes + 1)
+    × Reading (after_field (fields_of (type_of_ref l.ty))) (after_fields (fields_of (type_of_ref l.ty))) (no_more_fields (fields_of (type_of_ref l.ty))) (one_more_field (fields_of (type_of_ref l.ty))) l.levels (l.progress, ids) l.before.id l.rest
+    (seen (after_fields (fields_of (type_of_ref l.ty)) (l.initial.progress, [])) (all_fields l.levels (value l.levels) l.bytes))
+    × (l.progress.found ≡ None → Reading (counted_field (fields_of (type_of_ref l.ty))) (counted_fields (fields_of (type_of_ref l.ty))) (no_field_counted (fields_of (type_of_ref l.ty))) (field_counted (fields_of (type_of_ref l.ty))) l.levels (l.sums, ids) l.before.id l.rest
+    (seen (counted_fields (fields_of (type_of_ref l.ty)) (l.initial.sums, [])) (all_fields l.levels (value l.levels) l.bytes))))
+    × (l.progress.next + length l.rest ≤ l.node + length l.bytes + 1)
     × (take l.base l.marks.items ≡ take l.base l.initial.marks.items)
 
 abbrev pub decreases-check_struct-fields : goal.decreases-check_struct-fields

@@ -1,4 +1,4 @@
-use Rattle.std.proofs.Common.{◌∙◌, sym, ap, rules, arith, ◌≡◌, true, false, ◌∷◌, []}
+use Rattle.std.proofs.Common.{◌∙◌, sym, ap, rules, arith, true, false, ◌∷◌, []}
 use Rattle.std.specs.Prelude.{◌&&◌, not, Bool}
 use Rattle.std.proofs.lemmas.Int.{to_z-of_z}
 use mir.Val.{SFits}

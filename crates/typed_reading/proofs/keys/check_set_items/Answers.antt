@@ -1,4 +1,4 @@
-use Rattle.std.proofs.Common.{◌∙◌, sym, ap, arith, ◌+◌, ◌∷◌, [], ◌++◌}
+use Rattle.std.proofs.Common.{◌∙◌, ap, arith, ◌∷◌, [], ◌++◌}
 use Rattle.std.proofs.lemmas.Result.{err_from_is_err_and}
 use Rattle.exact_reading.specs.Reading.{seen}
 use Rattle.compact_wire.specs.Reads.{items, value}
@@ -6,6 +6,8 @@ use Rattle.idl_parse.specs.Refs.{type_of_ref}
 use Rattle.key_order.specs.Keys.{value_of}
 use Rattle.key_order.specs.Entries.{placed}
 use Rattle.wire_scan.proofs.Seen.{items_go_on, items_end, items_done}
+use Rattle.typed_reading.specs.Counts.{counted_item, counted_items}
+use Rattle.typed_reading.proofs.CountSteps.{none_counted, one_counted, key_item}
 use Rattle.typed_reading.specs.Progress.{after_key, after_keys}
 use Rattle.typed_reading.proofs.Steps.{no_more_keys, one_more_key}
 use Rattle.typed_reading.proofs.Tables.{key_ok, key_err, set_done, set_err}
@@ -25,10 +27,10 @@ returns-in_err-key-clause-reads c =
     let v = value c.args.levels c.args.kind in
     let d = c.in_err-key.field-0.0 in
     let k = c.requires.kind (omega (arith, c.loop-test.true)) in
-    let e = key_err t c.loop.known (placed c.loop.keys.items) c.args.levels c.args.kind c.loop.rest.now (key_is_leaf c.args.kind k.0) d c.in_err-key.ensures.reads in
-    rw (p.1, p.2) (set_err t c.args.so_far (items v c.args.count c.args.bytes.now) d
-    (items_end (after_key t) (after_keys t) (no_more_keys t) (one_more_key t) v (c.loop.known, placed c.loop.keys.items) d c.args.count c.loop.counter c.loop.rest.now
-    (seen (after_keys t (c.args.so_far, [])) (items v c.args.count c.args.bytes.now)) c.loop-test.true e c.loop.invariant.0))
+    let e = key_err t c.loop.progress (placed c.loop.keys.items) c.args.levels c.args.kind c.loop.rest.now (key_is_leaf c.args.kind k.0) d c.in_err-key.ensures.reads in
+    rw (p.1, p.2) (set_err t c.args.progress.now (items v c.args.count c.args.bytes.now) d
+    (items_end (after_key t) (after_keys t) (no_more_keys t) (one_more_key t) v (c.loop.progress, placed c.loop.keys.items) d c.args.count c.loop.counter c.loop.rest.now
+    (seen (after_keys t (c.args.progress.now, [])) (items v c.args.count c.args.bytes.now)) c.loop-test.true e c.loop.invariant.0))
 
 pub loop-preserved : goal.loop-preserved
 loop-preserved c =
@@ -38,22 +40,33 @@ loop-preserved c =
     let key = c.in_ok-key.key in
     let ks = placed c.loop.keys.items in
     let more = ks ++ (key.place, value_of key.key) ∷ [] in
-    let e = key_ok t c.loop.known ks c.args.levels c.args.kind c.loop.rest.now (key_is_leaf c.args.kind k.0) c.in_ok-key.last key.place (value_of key.key) c.in_ok-key.behind.now c.in_ok-key.ensures.reads in
-    let g = items_go_on (after_key t) (after_keys t) (no_more_keys t) (one_more_key t) v (c.loop.known, ks) (c.in_ok-key.last, more) c.args.count c.loop.counter c.loop.rest.now c.in_ok-key.behind.now
-    (seen (after_keys t (c.args.so_far, [])) (items v c.args.count c.args.bytes.now)) c.loop-test.true e c.loop.invariant.0 in
+    let e = key_ok t c.loop.progress ks c.args.levels c.args.kind c.loop.rest.now (key_is_leaf c.args.kind k.0) c.check_key.new.progress key.place (value_of key.key) c.in_ok-key.behind.now c.in_ok-key.ensures.reads in
+    let g = items_go_on (after_key t) (after_keys t) (no_more_keys t) (one_more_key t) v (c.loop.progress, ks) (c.check_key.new.progress, more) c.args.count c.loop.counter c.loop.rest.now c.in_ok-key.behind.now
+    (seen (after_keys t (c.args.progress.now, [])) (items v c.args.count c.args.bytes.now)) c.loop-test.true e c.loop.invariant.0 in
+    let item = key_item t c.loop.sums c.with_item.result c.check_key.new.sums c.args.levels c.args.kind c.loop.rest.now c.in_ok-key.behind.now (key_is_leaf c.args.kind k.0) c.with_item.ensures c.in_ok-key.ensures.counts in
+    let counts = items_go_on (counted_item t) (counted_items t) (none_counted t) (one_counted t) v c.loop.sums c.check_key.new.sums c.args.count c.loop.counter c.loop.rest.now c.in_ok-key.behind.now
+    (seen (counted_items t c.args.sums.now) (items v c.args.count c.args.bytes.now)) c.loop-test.true item c.loop.invariant.3 in
     let pushed = ap placed c.in_ok-push.ensures.items ∙ placed_push c.loop.keys.items key in (
       rw pushed g,
       omega (arith, c.in_ok-key.ensures.room, c.loop.invariant.1),
-      rw (pushed, c.in_ok-key.ensures.place) (climbs_one 0 c.loop.known.next c.in_ok-key.last.next ks (value_of key.key) c.loop.invariant.2 (omega (arith, c.in_ok-key.ensures.next))),
+      rw (pushed, c.in_ok-key.ensures.place) (climbs_one 0 c.loop.progress.next c.check_key.new.progress.next ks (value_of key.key) c.loop.invariant.2 (omega (arith, c.in_ok-key.ensures.next))),
+      counts,
     )
 
-pub with_repeat-requires : goal.with_repeat-requires
-with_repeat-requires c = rw c.as_mut_slice.ensures.value c.loop.invariant.2
+pub note_repeat-requires : goal.note_repeat-requires
+note_repeat-requires c = rw c.as_mut_slice.ensures.value c.loop.invariant.2
 
 pub returns-clause-reads : goal.returns-clause-reads
 returns-clause-reads c =
     let t = type_of_ref c.args.ty in
     let v = value c.args.levels c.args.kind in
-    let done = items_done (after_key t) (after_keys t) (no_more_keys t) (one_more_key t) v (c.loop.known, placed c.loop.keys.items) c.args.count c.loop.counter c.loop.rest.now
-    (seen (after_keys t (c.args.so_far, [])) (items v c.args.count c.args.bytes.now)) c.loop-test.false c.loop.invariant.0 in
-    rw (c.with_repeat.ensures, c.as_mut_slice.ensures.value) (set_done t c.args.so_far (items v c.args.count c.args.bytes.now) c.loop.known (placed c.loop.keys.items) c.loop.rest.now done)
+    let done = items_done (after_key t) (after_keys t) (no_more_keys t) (one_more_key t) v (c.loop.progress, placed c.loop.keys.items) c.args.count c.loop.counter c.loop.rest.now
+    (seen (after_keys t (c.args.progress.now, [])) (items v c.args.count c.args.bytes.now)) c.loop-test.false c.loop.invariant.0 in
+    rw (c.note_repeat.ensures, c.as_mut_slice.ensures.value) (set_done t c.args.progress.now (items v c.args.count c.args.bytes.now) c.loop.progress (placed c.loop.keys.items) c.loop.rest.now done)
+
+pub returns-clause-counts : goal.returns-clause-counts
+returns-clause-counts c clean =
+    let t = type_of_ref c.args.ty in
+    let v = value c.args.levels c.args.kind in
+    items_done (counted_item t) (counted_items t) (none_counted t) (one_counted t) v c.loop.sums c.args.count c.loop.counter c.loop.rest.now
+    (seen (counted_items t c.args.sums.now) (items v c.args.count c.args.bytes.now)) c.loop-test.false c.loop.invariant.3

@@ -12,10 +12,10 @@ use crate::demo::{DEFINITION, users};
 use crate::runs::{checksum, freezes, reads, respelled};
 use crate::trouble::Trouble;
 use compact_codec::decode;
-use idl_parse::{Definition, parse};
 use std::alloc::Global;
 use std::env;
 use std::time::Instant;
+use thrift_idl::{Definition, parse};
 use typed_reading::ValueFault;
 
 /// How many users the checksum is of.

@@ -10,9 +10,9 @@ use crate::trouble::Trouble;
 use compact_codec::{decode, encode};
 use content_check::check_content;
 use freezer::{Frozen, freeze};
-use idl_parse::Definition;
 use std::alloc::{AllocError, Global};
 use std::time::Instant;
+use thrift_idl::Definition;
 use typed_reading::{ValueFault, check};
 use typed_tree::Tree;
 

@@ -1,9 +1,9 @@
 //! Why nothing is measured.
 
 use content_check::ContentFault;
-use idl_parse::DefFault;
 use std::alloc::AllocError;
 use std::io;
+use thrift_idl::DefFault;
 use typed_reading::ValueFault;
 
 /// Why nothing is measured.

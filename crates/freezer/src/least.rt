@@ -16,12 +16,12 @@ ghost use Rattle.typed_tree.specs.References.{value_of_ref};
 use crate::pack::freeze_into;
 use block_region::Region;
 use fz_base::Steps;
-use idl_parse::Definition;
 use layout_tree::Layouts;
 use measure_pass::{Measured, measure};
 use std::alloc::{AllocError, Global};
 use std::marker::Brand;
 use std::sync::ledger::{Blank, Ledger};
+use thrift_idl::Definition;
 use typed_tree::TreeRef;
 
 /// A least layout, and the packing in it of the value that it is the least of.

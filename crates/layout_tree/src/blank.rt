@@ -16,9 +16,9 @@ ghost use Rattle.layout_tree.specs.Shapes.{marked};
 
 use crate::layouts::Layouts;
 use crate::node::{FormVersion, Kind, NodeSpec};
-use idl_parse::{Definition, FieldRef, Need, TypeKind, TypeRef, parts_of};
 use root_kinds::roots_have_kinds;
 use std::alloc::{AllocError, Global};
+use thrift_idl::{Definition, FieldRef, Need, TypeKind, TypeRef};
 
 // A node of no bits.
 fn blank_node(kind: Kind, field: u16, parent: u32) -> NodeSpec
@@ -224,7 +224,6 @@ pub fn shape(alloc: Global, def: &Definition) -> Result<Layouts, AllocError>
     ensures settled { IfOk result (λ l. IsSettled l) }
 {
     roots_have_kinds();
-    let _parts = parts_of(def);
     let mut nodes = Vec::new(alloc);
     add_type(&mut nodes, def.root(), 0, 0)?;
     Ok(Layouts {

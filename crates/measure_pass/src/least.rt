@@ -15,10 +15,10 @@ ghost use Rattle.measure_pass.specs.Measuring.{IsBlank, packed_length};
 use crate::pass::one_pass;
 use crate::ranges::{Ranges, pass_over};
 use fz_base::Steps;
-use idl_parse::Definition;
 use layout_tree::{Layouts, layouts_are_described, shape};
 use std::alloc::{AllocError, Global};
 use std::sync::ledger::Ledger;
+use thrift_idl::Definition;
 use typed_tree::TreeRef;
 use value_bounds::set_bases;
 

@@ -11,7 +11,7 @@ ghost use Rattle.path_text.specs.Views.{key_of_literal, step_of_kind, path_of};
 
 use crate::fault::PathFault;
 use crate::path::{KeyLit, Path, Step, StepKind};
-use idl_parse::{Definition, TypeKind, TypeRef};
+use thrift_idl::{Definition, TypeKind, TypeRef};
 
 // Whether a number is one of a kind of whole numbers; an enum has those of i32.
 fn is_number_of(kind: TypeKind, n: i64) -> bool

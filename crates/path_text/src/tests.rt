@@ -1,8 +1,8 @@
 //! Paths, with answers worked out by hand.
 
 use crate::{KeyLit, PathFault, StepKind, fit, fit_scan, parse_path};
-use idl_parse::{TypeKind, parse};
 use std::test::Fail;
+use thrift_idl::{TypeKind, parse};
 
 #[test]
 fn a_path_and_where_it_leads(rt: HostRuntime) -> Result<(), Fail> {

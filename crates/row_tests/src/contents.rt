@@ -15,10 +15,10 @@ use crate::values::{definition, value};
 use crate::widths::{first_version, rests, widened};
 use block_region::Region;
 use freezer::{Frozen, freeze, freeze_into};
-use idl_parse::Definition;
 use layout_tree::{Layouts, layouts_are_described};
 use measure_pass::{RangeSpot, Ranges};
 use std::alloc::{AllocError, Global};
+use thrift_idl::Definition;
 use typed_tree::{Tree, TreeRef};
 
 /// The bytes of the root's block and of the blocks of the ranges behind the first.

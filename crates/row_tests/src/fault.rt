@@ -1,7 +1,7 @@
 //! Why a row has no content.
 
-use idl_parse::DefFault;
 use std::alloc::AllocError;
+use thrift_idl::DefFault;
 use typed_reading::ValueFault;
 
 /// Why a row has no content.

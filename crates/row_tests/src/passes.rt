@@ -10,12 +10,12 @@ ghost use Rattle.row_tests.specs.Passes.{IsFirstOf};
 use crate::fault::RowFault;
 use crate::widths::first_version;
 use fz_base::Steps;
-use idl_parse::Definition;
 use layout_tree::{Layouts, layouts_are_described, shape};
 use measure_pass::{Ranges, one_pass, range_pass};
 use std::alloc::{AllocError, Global};
 use std::marker::Brand;
 use std::sync::ledger::{Blank, Ledger};
+use thrift_idl::Definition;
 use typed_tree::TreeRef;
 use value_bounds::set_bases;
 

@@ -8,8 +8,8 @@ ghost use Rattle.row_tests.specs.Values.{IsRootValue};
 use crate::fault::RowFault;
 use compact_codec::{decode, encode};
 use compact_wire::WireFault;
-use idl_parse::{Definition, parse};
 use std::alloc::{AllocError, Global};
+use thrift_idl::{Definition, parse};
 use typed_reading::ValueFault;
 use typed_tree::Tree;
 

@@ -11,12 +11,12 @@ ghost use Rattle.row_tests.specs.Widths.{TakesWidth, IsSound, Rests, first_of};
 
 use crate::fault::RowFault;
 use fz_base::Steps;
-use idl_parse::Definition;
 use layout_tree::{Kind, Layouts, layouts_are_described, shape};
 use measure_pass::one_pass;
 use std::alloc::{AllocError, Global};
 use std::marker::Brand;
 use std::sync::ledger::{Blank, Ledger};
+use thrift_idl::Definition;
 use typed_tree::TreeRef;
 use value_bounds::set_bases;
 

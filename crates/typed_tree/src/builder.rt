@@ -67,6 +67,7 @@ impl Builder {
     }
 
     // Makes room for what is used.
+    #[inline(always)]
     pub(crate) fn make_room(&mut self, used: Room) -> Result<(), AllocError>
         ensures store { store_of self.new.pool ≡ store_of self.old.pool }
         ensures nodes { self.new.pool.nodes.items ≡ self.old.pool.nodes.items }
@@ -83,6 +84,8 @@ impl Builder {
     }
 
     // Takes memory for this room, which is at least what there is.
+    #[cold]
+    #[inline(never)]
     fn grow(&mut self, room: Room) -> Result<(), AllocError>
         requires nodes { self.old.room.nodes ≤ room.nodes }
         requires bytes { self.old.room.bytes ≤ room.bytes }

@@ -11,6 +11,7 @@ pub mod Walks
 pub mod Accepted
 pub mod Sound
 pub mod Rows
+pub mod Short
 pub mod Shape
 pub mod Versions
 pub mod Exact

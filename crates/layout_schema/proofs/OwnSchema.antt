@@ -170,12 +170,19 @@ version_fits : (v : Version) → InBits 31 (version_number v)
 version_fits Version1 = omega arith
 version_fits Version2 = omega arith
 
+-- the layout has at most 4096 nodes
+pub few_nodes : (d : Described) → IsDescribed d → length (shown_nodes (noted_from d.tree)) ≤ 4096
+few_nodes d h =
+    let xs = shown_nodes (noted_from d.tree) in
+    few_given {d = d} {ns = xs} {z = version_number d.version} {r = d.relaxed} xs refl
+    (record { described = h; numbered = refl; relaxes = refl; nodes = refl })
+
 pub schema_is_value : (d : Described) → IsDescribed d → Of (kinds_of (schema_type d.version)) (schema_of d)
 schema_is_value d h =
     let l = d.tree in
     let t = noted_from l in
     let xs = shown_nodes t in
-    let few : length xs ≤ 4096 = few_given {d = d} {ns = xs} {z = version_number d.version} {r = d.relaxed} xs refl (record { described = h; numbered = refl; relaxes = refl; nodes = refl }) in
+    let few = few_nodes d h in
     let formed : IsFormed t = (kind_tree_along (alike_noted l) h.layout.kind_tree).formed in
     let fit = fit_shown (all_nodes t) (layout_fits d.version l h.layout.coded h.layout.legal h.layout.kind_tree.narrow h.layout.kind_tree.formed) in
     let long : length xs ≡ nodes t = length-map (all_nodes t) shown ∙ length_nodes t kinds.Struct 0 0 0 0 in

@@ -30,7 +30,7 @@ layouts_spelled v (And x vs) xs = let e = counted (wire (scalar i16)) (wire (lay
 pub child_spelled : (n : ℕ) (s : NodeSpec) (rest : List ℕ) → signed_number s.field ++ (canon (wire field_type (child_value n s)) ++ rest) ≡ child_bytes n s ++ rest
 child_spelled n s rest = simp append_assoc refl
 
-layout_spelled : (v : Version) (n : ℕ) (s : NodeSpec) (cs : Values) (later : List ℕ) → signed_number (pos n) ++ (canon (wire (layout_type v) (layout_of_node v s cs)) ++ later) ≡ layout_bytes v n s cs ++ later
+pub layout_spelled : (v : Version) (n : ℕ) (s : NodeSpec) (cs : Values) (later : List ℕ) → signed_number (pos n) ++ (canon (wire (layout_type v) (layout_of_node v s cs)) ++ later) ≡ layout_bytes v n s cs ++ later
 layout_spelled Version1 n s cs later =
     ap (λ r. signed_number (pos n) ++ ((21 ∷ (signed_number (pos 0) ++ (20 ∷ (signed_number (pos s.bits) ++ r)))) ++ later))
     (children_spelled cs (field (pos 4) (binary (type_name s.kind)) no_fields))

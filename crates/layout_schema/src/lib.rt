@@ -14,7 +14,7 @@ mod walk;
 mod write;
 
 pub use fault::SchemaFault;
-pub use laws::{schemas_are_exact, written_schema_is_schema};
+pub use laws::{schemas_are_exact, schemas_are_short, written_schema_is_schema};
 pub use reading::read_schema;
 pub use write::write_schema;
 

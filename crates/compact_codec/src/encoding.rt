@@ -1,21 +1,22 @@
 //! Writing a value of a type in its canonical spelling.
 
-ghost use Rattle.std.specs.Prelude.{◌≡◌, ◌≢◌, ◌<◌, ◌++◌, ◌∷◌, [], IfOk, OnOk};
+ghost use Rattle.std.specs.Prelude.{◌≡◌, ◌≢◌, ◌<◌, ◌++◌, IfOk, OnOk};
 ghost use Rattle.idl_profile.specs.Types.{kind_of};
 ghost use Rattle.idl_parse.specs.Refs.{type_of_ref, field_of_ref};
-ghost use Rattle.frozen_model.specs.Values.{Of, OfEach, InBits};
+ghost use Rattle.frozen_model.specs.Values.{Of, OfEach};
 ghost use Rattle.type_kinds.specs.KindsOf.{kinds_of};
 ghost use Rattle.typed_tree.specs.Parts.{IsInt, IsRow, IsMap, items_of};
 ghost use Rattle.typed_tree.specs.References.{value_of_ref};
 ghost use Rattle.typed_tree.specs.Sizes.{field_kinds};
 ghost use Rattle.typed_tree.specs.Ranges.{pair_kinds};
-ghost use Rattle.compact_wire.specs.Node.{Fields, list, flag, field as one_field};
+ghost use Rattle.compact_wire.specs.Node.{Fields, list, field as one_field};
 ghost use Rattle.compact_wire.specs.Number.{shortest, zigzag as zigzag_of};
-ghost use Rattle.compact_wire.specs.Canon.{canon, canon_fields, byte_of};
+ghost use Rattle.compact_wire.specs.Canon.{canon, canon_fields};
 ghost use Rattle.compact_wire.specs.Writes.{canon_field};
 ghost use Rattle.typed_reading.specs.Codes.{code as code_in};
 ghost use Rattle.compact_codec.specs.Wire.{wire, each, each_pair, map_with, with_field, number_in};
 
+use crate::scalars::{push_byte, push_flag, push_flag_field};
 use compact_wire::{
     FieldBefore, push_binary, push_field_header, push_number, push_sequence_header, zigzag,
 };
@@ -34,23 +35,6 @@ pub fn encode(alloc: Global, ty: TypeRef<'_>, v: TreeRef<'_>) -> Result<Vec<u8>,
     let mut out = Vec::new(alloc);
     push_value(&mut out, ty, v)?;
     Ok(out)
-}
-
-// A flag that is no field.
-fn push_flag(out: &mut Vec<u8>, x: bool) -> Result<(), AllocError>
-    ensures { OnOk result (out.new.items ≡ out.old.items ++ canon (flag x)) }
-{
-    out.push(if x { 1 } else { 2 })?;
-    Ok(())
-}
-
-// A number of 8 bits, in two's complement.
-fn push_byte(out: &mut Vec<u8>, x: i64) -> Result<(), AllocError>
-    requires { InBits 7 x }
-    ensures { OnOk result (out.new.items ≡ out.old.items ++ byte_of x ∷ []) }
-{
-    out.push(if x >= 0 { x as u8 } else { (x + 256) as u8 })?;
-    Ok(())
 }
 
 // A number of more bits.
@@ -206,22 +190,6 @@ fn push_header_and_value(
     match ty.kind() {
         TypeKind::Flag => push_flag_field(out, before, id, v.flag()),
         _ => push_other_field(out, before, id, ty, v),
-    }
-}
-
-// A field that is a flag.
-fn push_flag_field(
-    out: &mut Vec<u8>,
-    before: FieldBefore,
-    id: i16,
-    x: bool,
-) -> Result<(), AllocError>
-    ensures { OnOk result (out.new.items ≡ out.old.items ++ canon_field before.id id (flag x)) }
-{
-    if x {
-        push_field_header(out, before, id, 1)
-    } else {
-        push_field_header(out, before, id, 2)
     }
 }
 

@@ -11,7 +11,7 @@ use Rattle.idl_profile.specs.Types.{struct_of}
 use Rattle.idl_profile.specs.Types.{Fields, no_fields, field, DefField, field_list, fields_of, kind_of}
 use Rattle.idl_profile.specs.Types.{flag, i8, i16, i32, i64}
 use Rattle.idl_parse.specs.Refs.{element_of, key_of, value_of}
-use Rattle.frozen_model.specs.Trees.{KindTree, KindTrees}
+use Rattle.frozen_model.specs.Trees.{KindTree, KindTrees, Leaf, Optional as optional}
 use Rattle.frozen_model.specs.Values as is
 use Rattle.frozen_model.specs.Values.{Value, Values, Of, one, absent, present, record_of, OfEach, none, more}
 use Rattle.frozen_model.specs.Values.{OfAll}
@@ -22,7 +22,7 @@ use Rattle.typed_tree.specs.Sizes.{capped}
 use Rattle.typed_tree.proofs.Celled.{all_fields, HasItems, HasPairs}
 use Rattle.typed_tree.specs.Parts.{items_of}
 use Rattle.typed_tree.specs.Ranges.{pair_kinds}
-use Rattle.lens_values.specs.Flat.{IsFlat, AreFlat}
+use Rattle.lens_values.specs.Flat.{IsLeaf, IsFlat, AreFlat}
 
 pub listed : (t : TypeTree) → fields_of t ≡ field_list (all_fields t)
 listed (named (struct_of w fs)) = refl
@@ -104,6 +104,21 @@ pub flat_each : {k : KindTree} {vs : Values} → OfEach k vs → IsFlat k
     → cells_each k vs ≡ count vs * (1 + inline_cells k)
 flat_each none f = omega arith
 flat_each (more h hs) f = omega (arith, flat_cells h f, flat_each hs f)
+
+-- ---- flags and numbers
+
+inline_leaf : (k : KindTree) → IsLeaf k → inline_cells k ≡ 1
+inline_leaf (Leaf k a) h = refl
+inline_leaf k h = absurd h
+
+-- in a field that is not optional, and in one that is
+pub leaf_one : (k : KindTree) (v : Value) → IsLeaf k → cells k v ≡ 1
+leaf_one (Leaf k a) v h = refl
+leaf_one k v h = absurd h
+
+pub leaf_two : (k : KindTree) {v : Value} → Of (optional tt k) v → IsLeaf k → cells (optional tt k) v ≡ 2
+leaf_two k absent h = ap (λ n. 1 + n) (inline_leaf k h)
+leaf_two k (present {v = v} o) h = ap (λ n. 1 + n) (leaf_one k v h)
 
 -- ---- products that are capped
 

@@ -14,7 +14,7 @@ use Rattle.idl_profile.specs.Types.{struct_of}
 use Rattle.idl_profile.specs.Types.{Fields, no_fields, field, DefField, field_list}
 use Rattle.idl_profile.specs.Types.{fields_of, kind_of}
 use Rattle.idl_profile.specs.declared.kinds.TypeKind.TheVariants as k
-use Rattle.idl_parse.specs.Refs.{key_of, value_of}
+use Rattle.idl_parse.specs.Refs.{element_of, key_of, value_of}
 use Rattle.frozen_model.specs.Trees as tree
 use Rattle.frozen_model.specs.Trees.{Rising, AList, ASet}
 use Rattle.frozen_model.specs.Values as is
@@ -28,7 +28,7 @@ use Rattle.typed_tree.specs.Parts.{ids_of as ids_in}
 use Rattle.typed_tree.specs.Fields.{id_number}
 use Rattle.typed_tree.specs.Sizes.{field_kinds}
 use Rattle.typed_tree.proofs.Typed.{size}
-use Rattle.typed_tree.proofs.Celled.{map-value}
+use Rattle.typed_tree.proofs.Celled.{row-value, map-value}
 use Rattle.evolve.specs.declared.lens.Lens.{Lens}
 use Rattle.evolve.specs.Parts.{held}
 use Rattle.evolve.specs.Lenses.{type_of_lens, value_of_lens, HasForm}
@@ -58,6 +58,11 @@ lens_row l (inr e) = set_is (value_of_lens l) (subst (λ x. HasForm x (value_of_
 
 pub lens_map : (l : Lens) → kind_of (type_of_lens l) ≡ k.Map → IsMap (value_of_lens l)
 lens_map l e = subst (λ x. HasForm x (value_of_lens l)) e (lens_form l)
+
+-- the items of a list or a set are of a smaller type
+pub row_size : (l : Lens) → (kind_of (type_of_lens l) ≡ k.List) ⊎ (kind_of (type_of_lens l) ≡ k.Set)
+    → suc (size (element_of (type_of_lens l))) ≡ size (type_of_lens l)
+row_size l e = by_value l (λ o. (row-value (type_of_lens l) (value_of_lens l) e o).smaller)
 
 -- the key and the value of a map are of smaller types
 pub map_size : (l : Lens) → kind_of (type_of_lens l) ≡ k.Map
@@ -115,15 +120,15 @@ struct_type (list_of x) e = absurd (cc)
 struct_type (set_of x) e = absurd (cc)
 struct_type (map_of x y) e = absurd (cc)
 
-ids_prop : (xs ys : List ℕ) → IsProp (xs ≡ ys)
-ids_prop xs ys = hlevel props
+pub numbers_prop : (xs ys : List ℕ) → IsProp (xs ≡ ys)
+numbers_prop xs ys = hlevel props
 
 pub lens_struct : (l : Lens) → kind_of (type_of_lens l) ≡ k.Struct → HasIds (type_of_lens l) (value_of_lens l)
 lens_struct l e =
     let t = type_of_lens l in
     let v = value_of_lens l in
     let s = struct_type t e in record {
-      ids = ∥∥₁_elim (lens_value l) (ids_prop _ _) (λ o. (struct_ids t v s o).ids);
+      ids = ∥∥₁_elim (lens_value l) (numbers_prop _ _) (λ o. (struct_ids t v s o).ids);
       many = by_value l (λ o. (struct_ids t v s o).many);
     }
 

@@ -1,4 +1,3 @@
 pub mod FlatTypes
 pub mod LensParts
-pub mod KeyRanks
-pub mod PutStructs
+pub mod Written

@@ -1,6 +1,11 @@
 -- Kinds all of whose values have the same cells.
 use Rattle.frozen_model.specs.Trees.{Leaf, Optional, Struct, NoField, Field, KindTree, KindTrees}
 
+-- a flag or a number
+abbrev pub IsLeaf : KindTree → Type 0
+IsLeaf (Leaf k a) = Unit {0}
+IsLeaf l = ⊥
+
 -- no text, bytes, list, set or map is inside
 abbrev mutual
   pub IsFlat : KindTree → Type 0

@@ -1,14 +1,17 @@
 //! How many cells a part of a file has under a definition.
-ghost use Rattle.std.specs.Prelude.{◌≡◌, ◌+◌, ◌*◌, ◌⊎◌, length, option_map, Some, IfSome};
-ghost use Rattle.idl_profile.specs.Types.{kind_of};
-ghost use Rattle.idl_parse.specs.Refs.{type_of_ref, field_of_ref};
+ghost use Rattle.std.specs.Prelude.{◌≡◌, ◌+◌, ◌*◌, ◌⊎◌, length, option_map, option_and_then, Some, IfSome};
+ghost use Rattle.std.specs.List.{Contains};
+ghost use Rattle.idl_profile.specs.Types.{kind_of, fields_of};
+ghost use Rattle.idl_parse.specs.Refs.{field_of_ref};
 ghost use Rattle.frozen_model.specs.Values.{Value, Of, cells as cells_of};
 ghost use Rattle.type_kinds.specs.KindsOf.{kinds_of};
+ghost use Rattle.typed_tree.specs.Parts.{field_of};
 ghost use Rattle.typed_tree.specs.Sizes.{capped, field_kinds};
 ghost use Rattle.evolve.specs.Parts.{held};
 ghost use Rattle.evolve.specs.Lenses.{type_of_lens, value_of_lens};
+ghost use Rattle.lens_values.specs.Flat.{IsLeaf};
 
-use crate::flat::is_flat;
+use crate::flat::{is_flat, is_leaf};
 use evolve::Lens;
 use thrift_idl::{FieldRef, Need, TypeKind};
 use typed_tree::inline_cells;
@@ -122,10 +125,40 @@ fn record_cells(from: Lens<'_>) -> u64
     let mut total = 0u64;
     for i in 0..ty.field_count() {
         let field = ty.field_at(i);
-        let cells = part_cells(field, from.part(field));
+        let cells = field_cells(from, field);
         total = total.saturating_add(cells);
     }
     total
+}
+
+// The cells of what a struct has in a field. A flag, a number or an enum is not looked for: whatever it is,
+// and where it is absent, it has the same cells.
+#[cycle(cells)]
+fn field_cells<'a>(from: Lens<'a>, field: FieldRef<'a>) -> u64
+    requires { Contains (fields_of (type_of_lens from)) (field_of_ref field) }
+    ensures { (v : Value) → let f = field_of_ref field.entry in Of (field_kinds f.need f.type) v
+        → option_and_then held (field_of (value_of_lens from.entry) f.id) ≡ held v
+        → result ≡ capped (cells_of (field_kinds f.need f.type) v) }
+{
+    if is_leaf(field.ty()) {
+        leaf_cells(field)
+    } else {
+        part_cells(field, from.part(field))
+    }
+}
+
+// The cells of a flag, a number or an enum, and one more for whether an optional one is there.
+#[inline]
+fn leaf_cells(field: FieldRef<'_>) -> u64
+    requires { IsLeaf (kinds_of (field_of_ref field).type) }
+    ensures { (v : Value) → let f = field_of_ref field.entry in Of (field_kinds f.need f.type) v
+        → result ≡ capped (cells_of (field_kinds f.need f.type) v) }
+{
+    match field.need() {
+        Need::Optional => 2,
+        Need::Plain => 1,
+        Need::Required => 1,
+    }
 }
 
 // The cells of what a field has: an optional has one for whether it is there, and where it is absent the

@@ -1,11 +1,11 @@
-//! Why no tree is made of a part of a file.
+//! Why a part of a file is not written.
 ghost use Rattle.std.specs.Prelude.{◌≡◌};
 ghost use Rattle.lens_values.specs.declared.fault.ThawFault.TheVariants.{NoMemory};
 
 use std::alloc::AllocError;
 use thiserror::Error;
 
-/// Why no tree is made of a part of a file.
+/// Why a part of a file is not written.
 #[derive(Clone, Copy, Debug, PartialEq, Eq, Error)]
 pub enum ThawFault {
     /// The part has so many cells, more than a value may have. For 2^64 or more the number is 2^64 - 1.

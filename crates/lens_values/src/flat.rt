@@ -3,9 +3,25 @@ ghost use Rattle.std.specs.Prelude.{◌≡◌, true};
 ghost use Rattle.idl_profile.specs.Types.{kind_of};
 ghost use Rattle.idl_parse.specs.Refs.{type_of_ref};
 ghost use Rattle.type_kinds.specs.KindsOf.{kinds_of};
-ghost use Rattle.lens_values.specs.Flat.{IsFlat};
+ghost use Rattle.lens_values.specs.Flat.{IsFlat, IsLeaf};
 
 use thrift_idl::{TypeKind, TypeRef};
+
+/// Whether the type is a flag, a number or an enum.
+#[inline]
+pub(crate) fn is_leaf(ty: TypeRef<'_>) -> bool
+    ensures { result ≡ true → IsLeaf (kinds_of (type_of_ref ty.entry)) }
+{
+    match ty.kind() {
+        TypeKind::Flag => true,
+        TypeKind::I8 => true,
+        TypeKind::I16 => true,
+        TypeKind::I32 => true,
+        TypeKind::I64 => true,
+        TypeKind::Enum => true,
+        _ => false,
+    }
+}
 
 /// Whether no text, bytes, list, set or map is inside the type. It goes as deep as the type.
 #[cycle(flat)]

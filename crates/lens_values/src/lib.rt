@@ -1,12 +1,12 @@
-//! Whole values of lenses: how many cells a part of a file has under a definition, and the part as a tree.
+//! Whole values of lenses: how many cells a part of a file has under a definition, and the part in Compact
+//! Protocol.
 #![tactic(auto)]
 
 mod cells;
 mod fault;
 mod flat;
-mod joining;
-mod putting;
 mod thawing;
+mod writing;
 
 pub use cells::lens_cells;
 pub use fault::ThawFault;

@@ -18,7 +18,7 @@ use Rattle.evolve.specs.Parts.{held}
 use Rattle.evolve.specs.Lenses.{type_of_lens, value_of_lens}
 use Rattle.evolve.proofs.Known.{lens_ids, lens_accepted}
 use Rattle.evolve.proofs.Members.{contains_at, rising_ids}
-use Rattle.lens_values.specs.Flat.{IsFlat}
+use Rattle.lens_values.specs.Flat.{IsLeaf, IsFlat}
 use Rattle.lens_values.proofs.FlatTypes.{row_range, map_range}
 use Rattle.lens_values.proofs.LensParts.{by_value, lens_row, lens_map, map_size, lens_struct, struct_at}
 use Rattle.lens_values.proofs.LensParts.{there_plain, there_required}
@@ -155,20 +155,14 @@ record_cells-loop-i-init t c =
     let fs = all_fields (type_of_lens c.args.from) in
     sym (ap capped (none-before fs (values_in (value_of_lens c.args.from))))
 
-pub record_cells-part-requires : goal.record_cells-part-requires
-record_cells-part-requires t c =
+pub record_cells-field_cells-cells-requires : goal.record_cells-field_cells-cells-requires
+record_cells-field_cells-cells-requires t c =
+    let of_type = type_of_lens c.args.from in
     let f = field_of_ref c.field_at-field.result in
     let at = subst (λ x. slice_get (fields_of x) c.loop-i.i ≡ Some f) c.ty-ty.ensures
     c.field_at-field.ensures in
-    contains_at (fields_of (type_of_lens c.args.from)) c.loop-i.i f at
-
-pub record_cells-part_cells-cells-requires : goal.record_cells-part_cells-cells-requires
-record_cells-part_cells-cells-requires t c =
-    let f = field_of_ref c.field_at-field.result in
-    let at = subst (λ x. slice_get (fields_of x) c.loop-i.i ≡ Some f) c.ty-ty.ensures
-    c.field_at-field.ensures in
-    let less = field-smaller (type_of_lens c.args.from) c.loop-i.i f at in
-    (omega (arith, c.decreases, less), c.part.ensures.typed)
+    let less = field-smaller of_type c.loop-i.i f at in
+    (omega (arith, c.decreases, less), contains_at (fields_of of_type) c.loop-i.i f at)
 
 pub record_cells-loop-i-preserved : goal.record_cells-loop-i-preserved
 record_cells-loop-i-preserved t c =
@@ -182,9 +176,9 @@ record_cells-loop-i-preserved t c =
     by_value c.args.from (λ o.
     let h = struct-value of_type v c.requires o in
     let found = struct_at of_type v i f has_ids rising (lens_ids c.args.from) at in
-    let has = c.part.ensures.value ∙ ap (option_and_then held) found in
-    let one = c.part_cells-cells.ensures (nth (values_in v) i) (field-value of_type v i f h at) has in
-    field-more of_type v i c.loop-i.total c.part_cells-cells.result _ f h at c.loop-i.invariant one
+    let has = ap (option_and_then held) found in
+    let one = c.field_cells-cells.ensures (nth (values_in v) i) (field-value of_type v i f h at) has in
+    field-more of_type v i c.loop-i.total c.field_cells-cells.result _ f h at c.loop-i.invariant one
     c.saturating_add-total.ensures)
 
 pub record_cells-returns : goal.record_cells-returns
@@ -199,6 +193,19 @@ record_cells-returns t c =
     c.loop-i.invariant)
 
 -- ---- what a field has
+
+pub field_cells-leaf_cells-requires : goal.field_cells-leaf_cells-requires
+field_cells-leaf_cells-requires t c =
+    subst (λ x. IsLeaf (kinds_of x)) c.ty.ensures (c.is_leaf.ensures c.if-is_leaf.true)
+
+pub field_cells-part_cells-requires : goal.field_cells-part_cells-requires
+field_cells-part_cells-requires t c = (omega (arith, c.decreases), c.part.ensures.typed)
+
+pub field_cells-returns-then-is_leaf : goal.field_cells-returns-then-is_leaf
+field_cells-returns-then-is_leaf t c = λ v o e. c.leaf_cells.ensures v o
+
+pub field_cells-returns-else-is_leaf : goal.field_cells-returns-else-is_leaf
+field_cells-returns-else-is_leaf t c = λ v o e. c.part_cells.ensures v o (c.part.ensures.value ∙ e)
 
 pub part_cells-returns-in-None : goal.part_cells-returns-in-None
 part_cells-returns-in-None t c = λ v o e.

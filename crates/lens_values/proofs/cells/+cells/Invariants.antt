@@ -26,7 +26,10 @@ abbrev pub decreases-pair_cells : goal.decreases-pair_cells
 decreases-pair_cells l = 5 * size (type_of_lens l.map)
 
 abbrev pub decreases-record_cells : goal.decreases-record_cells
-decreases-record_cells l = 5 * size (type_of_lens l.from)
+decreases-record_cells l = 5 * size (type_of_lens l.from) + 1
+
+abbrev pub decreases-field_cells : goal.decreases-field_cells
+decreases-field_cells l = 5 * size (field_of_ref l.field).type + 5
 
 abbrev pub decreases-part_cells : goal.decreases-part_cells
 decreases-part_cells l = 5 * size (field_of_ref l.field).type + 4

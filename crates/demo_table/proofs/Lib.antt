@@ -1,3 +1,4 @@
 pub mod Binds
 pub mod Found
 pub mod Owned
+pub mod Thawed

@@ -1,24 +1,25 @@
 -- What opening the frozen file of a value gives.
-use Rattle.std.proofs.Common.{◌≡◌, ◌∙◌, ◌+◌, ◌++◌, ◌<◌, ◌^◌, ℕ, List, true, length, take, drop}
+use Rattle.std.proofs.Common.{◌≡◌, ◌∙◌, ◌+◌, ◌<◌, ◌^◌, ℕ, List, true, length}
 use Rattle.std.proofs.Common.{sym, ap, subst, arith}
 use Rattle.std.proofs.Common.{length-append}
-use Rattle.std.proofs.Math.Seq.{take-append_seam}
 use Rattle.idl_profile.specs.Types.{Named, root_of}
 use Rattle.type_kinds.specs.KindsOf.{kinds_of}
-use Rattle.frozen_model.specs.Bits.{number}
-use Rattle.frozen_model.specs.Trees.{kinds}
+use Rattle.frozen_model.specs.Trees.{KindTree, kinds}
 use Rattle.frozen_model.specs.Values.{Value}
 use Rattle.frozen_model.specs.Layouts.{Version2, Described}
 use Rattle.frozen_model.specs.Packing.{packed}
 use Rattle.frozen_model.specs.Holding.{Least}
-use Rattle.frozen_model.specs.Files.{File, content_of, four_bytes}
+use Rattle.frozen_model.specs.Files.{File, content_of}
 use Rattle.frozen_laws.specs.Laws.{IsContent}
 use Rattle.frozen_laws.proofs.Cells.{whole_cells}
 use Rattle.frozen_laws.proofs.Opening.{packed_length}
+use Rattle.frozen_laws.proofs.Packed.{packed_packs}
 use Rattle.layout_schema.specs.Answers.{SchemaBytes}
+use Rattle.layout_schema.specs.Laws.{SchemasAreShort}
 use Rattle.file_check.specs.Written.{written}
 use Rattle.file_check.proofs.FileParts.{file_is}
-use Rattle.frozen_file.specs.FrozenFile.{IsFrozenFile}
+use Rattle.frozen_file.specs.FrozenFile.{IsLeastFile, IsFrozenFile}
+use Rattle.demo_table.specs.Laws.{OwnFileIsShort}
 
 -- a layout and a content are those of the value's own file
 pub record IsOwn (d : List Named) (v : Value) (l : Described) (content : List ℕ) : Type 0 where
@@ -45,26 +46,22 @@ opened_own d v b bytes content l f same layout is =
 
 -- ---- the length of a file
 
-four_small : (n : ℕ) → number (four_bytes n) < 2 ^ 32
-four_small n = omega arith
+-- a schema that is short has room in the header for its length
+pub room_for : (s : List ℕ) → length s < 2 ^ 20 → length s < 2 ^ 32
+room_for s h = omega (arith, h)
 
-size_written : (size rest other : List ℕ) (n : ℕ) → length size ≡ 4 → size ++ rest ≡ four_bytes n ++ other
-    → size ≡ four_bytes n
-size_written size rest other n four same =
-    sym (take-append_seam size rest) ∙ ap (λ k. take k (size ++ rest)) four ∙ ap (take 4) same
-
-pub small_file : (d : List Named) (v : Value) (b bytes : List ℕ) → IsFrozenFile d v b → bytes ≡ b
-    → length bytes < 2 ^ 56
-small_file d v b bytes f same =
-    let h = f.file in
+pub short_file : SchemasAreShort → (k : KindTree) (v : Value) (bytes : List ℕ) → IsLeastFile k v bytes
+    → length bytes < 2 ^ 30
+short_file law k v bytes f =
     let l = f.layout in
-    let n = length (written l) in
-    let is : h.size ≡ four_bytes n =
-    size_written h.size (h.schema ++ h.content) (written l ++ packed l.tree v) n h.four
-    (ap (drop 4) (sym h.joined ∙ f.spelled)) in
-    let schema : length h.schema < 2 ^ 32 = omega (arith, four_small n, ap number is, h.sized) in
-    let content = packed_length h.content h.holds.of_kind h.packed in
-    let whole = whole_cells l.tree v h.holds.of_kind f.least.is_layout.layout.legal in
-    let long : length b ≡ 8 + (length h.schema + length h.content) =
-    ap length h.joined ∙ simp length-append (omega (arith, h.four)) in
-    omega (arith, long, ap length same, schema, content, whole, h.within)
+    let o = f.file.holds.of_kind in
+    let schema : length (written l) < 2 ^ 20 = law l f.least.is_layout in
+    let content = packed_length (packed l.tree v) o (packed_packs o) in
+    let whole = whole_cells l.tree v o f.least.is_layout.layout.legal in
+    let long : length bytes ≡ 8 + (length (written l) + length (packed l.tree v)) =
+    ap length f.spelled ∙ simp length-append (omega arith) in
+    omega (arith, long, schema, content, whole, f.file.within)
+
+pub small_file : OwnFileIsShort → (d : List Named) (v : Value) (b bytes : List ℕ) → IsFrozenFile d v b
+    → bytes ≡ b → length bytes < 2 ^ 56
+small_file law d v b bytes f same = omega (arith, ap length same, law (kinds_of (root_of d)) v b f)

@@ -4,6 +4,7 @@ ghost use Rattle.std.specs.Prelude.{◌≡◌, ◌++◌, ◌≤◌, IfOk, OnOk, 
 ghost use Rattle.std.specs.Fmt.{decimal};
 ghost use Rattle.demo_table.specs.Demo.{IsDemo, demo_text};
 
+use crate::laws::own_file_is_short;
 use crate::lookups::{id_path, look_all_up};
 use crate::opening::{definition, opened, own_plan};
 use cli_texts::demo_users;
@@ -45,6 +46,7 @@ pub fn demo(alloc: Global, n: u32) -> Result<DemoFigures, AllocError>
     ensures { IfOk result (λ d. IsDemo n d) }
 {
     projection_is_a_value();
+    own_file_is_short();
     let def = definition(alloc)?;
     let tree = demo_users(alloc, n)?;
     let cells = cells(def.root(), tree.top());

@@ -7,7 +7,7 @@ mod lookups;
 mod opening;
 
 pub use figures::{DemoFigures, demo, demo_line};
-pub use laws::own_file_opens;
+pub use laws::{own_file_is_short, own_file_opens, own_file_thaws};
 pub use lookups::id_path;
 
 #[cfg(test)]

@@ -4,3 +4,4 @@ pub mod Joins
 pub mod Rows
 pub mod Leading
 pub mod Contents
+pub mod Thawing

@@ -17,7 +17,7 @@ ghost use Rattle.frozen_cli.specs.Refusal.{IsRefused, IsReading};
 ghost use Rattle.frozen_cli.specs.Stages.{StageGives, HeldStageGives};
 ghost use Rattle.frozen_cli.specs.Changes.{seen, ReadsFiles};
 ghost use Rattle.frozen_cli.specs.Reply.{DefinitionIn, ValueIn, FrozenUnder, FreezeGives};
-ghost use Rattle.frozen_cli.specs.Reply.{leads_to, ShowsValue, ShowsAt, ShowsPart, Thaws, Under, OpenedUnder};
+ghost use Rattle.frozen_cli.specs.Reply.{leads_to, ShowsValue, ShowsAt, ShowsPart, Under, OpenedUnder};
 ghost use Rattle.frozen_cli.specs.Reply.{FileUnder, WantedIn, ShowGives, ListingOf, LayoutGives};
 ghost use Rattle.frozen_cli.specs.Reply.{UpgradeOf, UpgradeGives, PrintGives};
 ghost use Rattle.frozen_cli.specs.Reply.{CommandGives};
@@ -27,7 +27,7 @@ use crate::refusal::{Failure, Role};
 use crate::stages::{self, read_role};
 use crate::wanted::Want;
 use crate::words::{Command, Showing, parse_words};
-use evolve::{Lens, projection_is_a_value, root_lens};
+use evolve::{Lens, root_lens};
 use file_check::Opened;
 use fz_base::Files;
 use path_text::Path;
@@ -153,18 +153,6 @@ fn shown_at(
     shown_part(alloc, showing, def, root, path, ty)
 }
 
-/// A value in Compact Protocol, within the limit of cells.
-fn thawed(alloc: Global, ty: TypeRef<'_>, root: Lens<'_>) -> Result<Vec<u8>, Failure>
-    requires typed { type_of_lens root ≡ type_of_ref ty }
-    requires form { Of (kinds_of (type_of_ref ty)) (value_of_lens root) }
-    ensures gives { StageGives (λ out. out.items)
-        (Thaws (type_of_ref ty.entry) (value_of_lens root.entry)) result }
-    ensures no_file { IsErrAnd result (IsRefused IsReading) → ⊥ }
-{
-    let tree = stages::thawed(alloc, ty, root)?;
-    stages::encoded(alloc, ty, &tree)
-}
-
 /// What is wanted of an opened file under a definition.
 fn wanted_opened(
     alloc: Global,
@@ -183,10 +171,7 @@ fn wanted_opened(
     let root = root_lens(def, opened, &plan);
     match want {
         Want::Part(showing, path) => shown_at(alloc, showing, def, root, path),
-        Want::Whole => {
-            projection_is_a_value();
-            thawed(alloc, def.root(), root)
-        }
+        Want::Whole => stages::thawed(alloc, root),
         Want::Sizes => stages::checked(alloc, root, opened.content),
     }
 }

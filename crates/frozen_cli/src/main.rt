@@ -4,6 +4,7 @@
 mod answer;
 mod deliver;
 mod ids;
+mod laws;
 mod refusal;
 mod run;
 mod stages;

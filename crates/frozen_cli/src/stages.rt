@@ -7,7 +7,7 @@ ghost use Rattle.frozen_cli.specs.Refusal.{IsRefused, IsReading};
 ghost use Rattle.frozen_cli.specs.Opened.{value_held as value_in_file, file_held, value_under};
 ghost use Rattle.frozen_cli.specs.Reply.{DefinitionStage, ValueStage, FileStage, BindStage, PathStage};
 ghost use Rattle.frozen_cli.specs.Reply.{FitStage, PartStage, CellsStage, Freezes, Upgrades, Demonstrates};
-ghost use Rattle.frozen_cli.specs.Reply.{Writes, check_line};
+ghost use Rattle.frozen_cli.specs.Reply.{Thaws, Writes, check_line};
 ghost use Rattle.frozen_cli.specs.Reply.{shown as shown_text};
 ghost use Rattle.frozen_model.specs.Values.{Of, cells, cell_limit};
 ghost use Rattle.frozen_laws.specs.Laws.{IsContent};
@@ -23,8 +23,6 @@ ghost use Rattle.idl_parse.specs.Refs.{type_of_ref};
 ghost use Rattle.path_text.specs.Views.{path_of};
 ghost use Rattle.path_text.specs.Fitting.{fitted as fitted_to};
 ghost use Rattle.typed_tree.specs.Sizes.{capped};
-ghost use Rattle.compact_wire.specs.Canon.{canon};
-ghost use Rattle.compact_codec.specs.Wire.{wire};
 ghost use Rattle.cli_texts.specs.Listing.{listing};
 ghost use Rattle.evolve.specs.Bound.{IsBound};
 ghost use Rattle.evolve.specs.Parts.{at};
@@ -34,7 +32,7 @@ use crate::ids::ids_text;
 use crate::refusal::{Failure, Refusal, Role};
 use crate::words::Showing;
 use cli_texts::layout_text;
-use compact_codec::{decode, encode};
+use compact_codec::decode;
 use demo_table::{demo, demo_line};
 use evolve::{BindFault, Lens, Plan, bind as bind_definition};
 use file_check::{OpenFault, Opened, open_frozen};
@@ -129,10 +127,12 @@ pub fn freeze_value(alloc: Global, def: &Definition, value: &Tree) -> Result<Vec
 
 /// The value of an opened file as a tree.
 pub fn value_held(alloc: Global, opened: &Opened<'_>) -> Result<Tree, Failure>
-    requires { IsContent (layout_of opened.now.layouts).tree (value_in_file opened.now) opened.now.content.now }
+    requires { IsContent (layout_of opened.now.layouts).tree (value_in_file opened.now)
+        opened.now.content.now }
     ensures value { IfOk result (λ t. value_of_tree t ≡ value_in_file opened.now) }
     ensures form { IfOk result (λ t. Of (layout_of opened.now.layouts).tree (value_of_tree t)) }
-    ensures few { IfOk result (λ t. cells (layout_of opened.now.layouts).tree (value_of_tree t) ≤ cell_limit) }
+    ensures few { IfOk result (λ t.
+        cells (layout_of opened.now.layouts).tree (value_of_tree t) ≤ cell_limit) }
     ensures memory { IfErr result (λ e. e ≡ Failure.NoMemory) }
 {
     Ok(value_of(alloc, opened)?)
@@ -287,30 +287,17 @@ pub fn shown(alloc: Global, showing: Showing, part: Lens<'_>) -> Result<Vec<u8>,
     Ok(text.into_bytes())
 }
 
-/// The tree of a value within the limit of cells.
-pub fn thawed(alloc: Global, ty: TypeRef<'_>, root: Lens<'_>) -> Result<Tree, Failure>
-    requires typed { type_of_lens root ≡ type_of_ref ty }
-    requires form { Of (kinds_of (type_of_ref ty)) (value_of_lens root) }
-    ensures gives { StageGives value_of_tree
-        (CellsStage (type_of_ref ty.entry) (value_of_lens root.entry)) result }
-    ensures form { IfOk result (λ t. Of (kinds_of (type_of_ref ty.entry)) (value_of_tree t)) }
+/// A value in its canonical spelling, within the limit of cells.
+pub fn thawed(alloc: Global, root: Lens<'_>) -> Result<Vec<u8>, Failure>
+    ensures gives { StageGives (λ out. out.items)
+        (Thaws (type_of_lens root.entry) (value_of_lens root.entry)) result }
     ensures no_file { IsErrAnd result (IsRefused IsReading) → ⊥ }
 {
     match thaw(alloc, root) {
-        Ok(tree) => Ok(tree),
+        Ok(bytes) => Ok(bytes),
         Err(ThawFault::TooManyCells(cells)) => Err(Failure::Refused(Refusal::TooManyCells(cells))),
         Err(ThawFault::NoMemory) => Err(Failure::NoMemory),
     }
-}
-
-/// A value of a type in its canonical spelling.
-pub fn encoded(alloc: Global, ty: TypeRef<'_>, value: &Tree) -> Result<Vec<u8>, Failure>
-    requires { Of (kinds_of (type_of_ref ty)) (value_of_tree value.now) }
-    ensures gives { StageGives (λ out. out.items)
-        (Writes (canon (wire (type_of_ref ty.entry) (value_of_tree value.now)))) result }
-    ensures no_file { IsErrAnd result (IsRefused IsReading) → ⊥ }
-{
-    Ok(encode(alloc, ty, value.top())?)
 }
 
 /// The line with the cells of a value, and the bytes of a content.

@@ -21,7 +21,7 @@ use Rattle.demo_table.proofs.figures.demo.Goals as goal
 
 pub opened-requires-clause-small : goal.opened-requires-clause-small
 opened-requires-clause-small c =
-    small_file (definition_of c.in_ok-def.def) (value_of_ref c.top-2.result) c.in_ok-file.file.items
+    small_file c.own_file_is_short.ensures (definition_of c.in_ok-def.def) (value_of_ref c.top-2.result) c.in_ok-file.file.items
     c.deref.result.now c.in_ok-file.ensures c.deref.ensures.value
 
 pub own_plan-requires : goal.own_plan-requires

@@ -1,13 +1,10 @@
 use Rattle.std.proofs.Common.{◌∙◌, sym, ap, subst, length}
-use Rattle.std.specs.Str.{IsUtf8}
 use Rattle.idl_profile.specs.Types.{root_of}
 use Rattle.idl_parse.specs.Parsed.{definition_of}
-use Rattle.frozen_model.specs.Values.{Of, cells}
+use Rattle.frozen_model.specs.Values.{cells}
 use Rattle.frozen_laws.proofs.Opening.{packed_length}
-use Rattle.layout_tree.specs.Nodes.{layout_of}
 use Rattle.path_text.specs.Views.{path_of}
 use Rattle.type_kinds.specs.KindsOf.{kinds_of}
-use Rattle.type_kinds.specs.Accepted.{IsAccepted}
 use Rattle.typed_tree.specs.Sizes.{capped}
 use Rattle.evolve.specs.Lenses.{value_of_lens}
 use Rattle.frozen_cli.specs.Opened.{value_held, file_held, value_under}
@@ -15,21 +12,7 @@ use Rattle.frozen_cli.specs.Stages.{StageGives}
 use Rattle.frozen_cli.specs.Reply.{BindStage, Answers, ShowsPart, Thaws, Writes, check_line}
 use Rattle.frozen_cli.specs.Words.{wanted_in}
 use Rattle.frozen_cli.proofs.Joins.{gives_then_at}
-use Rattle.root_kinds.proofs.References.{struct_ref_is_utf8}
 use Rattle.frozen_cli.proofs.answer.wanted_opened.Goals as goal
-
-pub thawed-requires-clause-form : goal.thawed-requires-clause-form
-thawed-requires-clause-form c =
-    let root = root_of (definition_of c.args.def.now) in
-    let o = c.args.opened.now in
-    let value = c.root_lens-root.ensures.value (value_held o) c.requires.held in
-    let accepted : IsAccepted IsUtf8 root =
-    subst (IsAccepted IsUtf8) c.root.ensures.tree (struct_ref_is_utf8 c.root.result c.root.ensures.kind) in
-    let is : Of (kinds_of root) (value_under (definition_of c.args.def.now) o) =
-    c.projection_is_a_value.ensures.formed (layout_of o.layouts) root (value_held o) accepted c.requires.short
-    c.in_ok-plan.ensures.bound.0 c.requires.held.holds.of_kind in
-    subst (λ t. Of (kinds_of t) (value_of_lens c.root_lens-root.result)) (sym c.root.ensures.tree)
-    (subst (Of (kinds_of root)) (sym value) is)
 
 pub returns-in-Part-clause-gives : goal.returns-in-Part-clause-gives
 returns-in-Part-clause-gives c =
@@ -52,7 +35,7 @@ returns-in-Whole-clause-gives c =
     let o = c.args.opened.now in
     let value = c.root_lens-root.ensures.value (value_held o) c.requires.held in
     let of_root = subst (λ t. StageGives (λ out. out.items) (Thaws t (value_of_lens c.root_lens-root.result))
-    c.thawed.result) c.root.ensures.tree c.thawed.ensures.gives in
+    c.thawed.result) c.root_lens-root.ensures.typed c.thawed.ensures.gives in
     let thawed = subst (λ v. StageGives (λ out. out.items) (Thaws (root_of d) v) c.thawed.result) value
     of_root in
     gives_then_at (λ out. out.items) (BindStage d (file_held o)) (Answers (wanted_in c.args.want) d

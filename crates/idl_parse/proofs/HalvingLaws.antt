@@ -1,9 +1,9 @@
 -- Halving finds the field of an id, since ids rise.
-use Rattle.std.proofs.Common.{◌≡◌, ◌≢◌, ℕ, zero, suc, ◌+◌, ◌<◌, ◌≤◌, Bool, true, false, ◌&&◌, not, cond, nat_lt, List, [], ◌∷◌, map, length, get_or, refl, sym, ap, subst, ◌∙◌, arith}
-use Rattle.std.specs.Prelude.{ℤ, int_lt, Option, Some, None, find, position}
+use Rattle.std.proofs.Common.{◌≡◌, ℕ, zero, suc, ◌<◌, ◌≤◌, Bool, true, false, not, List, [], ◌∷◌, map, length, get_or, refl, sym, subst, arith}
+use Rattle.std.specs.Prelude.{ℤ, int_lt, Some, None, find, position, slice_get}
 use Rattle.std.specs.Ordering.{int_eq}
-use Rattle.std.specs.List.{list_all, position_or_len}
-use Rattle.std.specs.List.Sorted.{IsPartitionedBy, IsPartitionPoint}
+use Rattle.std.specs.List.{list_all}
+use Rattle.std.specs.List.Sorted.{IsPartitionedBy}
 use Rattle.std.proofs.lemmas.Bool.{and_parts, and_from}
 use Rattle.std.proofs.lemmas.Bool.Decides.{nat_tests}
 use Rattle.std.proofs.lemmas.Grind.{common_steps}
@@ -60,6 +60,21 @@ found z (g ∷ fs) (suc i) f h l e =
     let rest = found z fs i f (λ k lt. h (suc k) (omega arith)) (omega arith) e in
     grind (arith, common_steps, nat_tests)
 
+less-than : (x y z : ℤ) → int_lt x y ≡ true → int_eq y z ≡ true → int_lt x z ≡ true
+less-than x y z g h = grind (arith, ints)
+
+less-before : (z : ℤ) (fs : List DraftField) (i k : ℕ) (f : DraftField) → rising fs ≡ true → k < i → i < length fs → int_eq (get_or fs i f).id.id z ≡ true → int_lt (get_or fs k f).id.id z ≡ true
+less-before z [] i k f r lt l e = absurd (omega arith)
+less-before z (g ∷ fs) zero k f r lt l e = absurd (omega arith)
+less-before z (g ∷ fs) (suc i) zero f r lt l e =
+    less-than g.id.id (get_or fs i f).id.id z (all-at g.id.id fs i f (and_parts (list_all (λ x. int_lt g.id.id x.id.id) fs) (rising fs) r).0 (omega arith)) e
+less-before z (g ∷ fs) (suc i) (suc k) f r lt l e =
+    less-before z fs i k f (and_parts (list_all (λ x. int_lt g.id.id x.id.id) fs) (rising fs) r).1 (omega arith) (omega arith) e
+
+-- where ids rise, a field with the id is the first with it
+pub risen : (z : ℤ) (fs : List DraftField) (i : ℕ) (f : DraftField) → rising fs ≡ true → i < length fs → int_eq (get_or fs i f).id.id z ≡ true → Some i ≡ position (has z) fs
+risen z fs i f r l e = found z fs i f (λ k lt. less-before z fs i k f r lt l e) l e
+
 none-above : (x z : ℤ) (fs : List DraftField) → int_lt x z ≡ false → list_all (λ g. int_lt x g.id.id) fs ≡ true → None ≡ position (has z) fs
 none-above x z [] g h = refl
 none-above x z (f ∷ fs) g h =
@@ -89,14 +104,14 @@ pub mapped : {X Y : Type 0} (p : Y → Bool) (g : X → Y) (xs : List X) → pos
 mapped p g [] = refl
 mapped p g (x ∷ xs) = let h = mapped p g xs in grind (arith, common_steps, nat_tests)
 
-pub find-mapped : {X Y : Type 0} (p : Y → Bool) (g : X → Y) (xs : List X) (i : ℕ) (d : X) → Some i ≡ position (λ x. p (g x)) xs → Some (g (get_or xs i d)) ≡ find p (map g xs)
-find-mapped p g [] i d e = absurd cc
-find-mapped p g (x ∷ xs) zero d e = grind (arith, common_steps, nat_tests)
-find-mapped p g (x ∷ xs) (suc i) d e = let h = find-mapped p g xs i d in grind (arith, common_steps, nat_tests)
+pub found-at : {X : Type 0} (p : X → Bool) (xs : List X) (i : ℕ) (x : X) → Some i ≡ position p xs → slice_get xs i ≡ Some x → Some x ≡ find p xs
+found-at p [] i x e g = absurd cc
+found-at p (y ∷ xs) zero x e g = grind (arith, common_steps, nat_tests)
+found-at p (y ∷ xs) (suc i) x e g = let h = found-at p xs i x in grind (arith, common_steps, nat_tests)
 
-pub find-none : {X Y : Type 0} (p : Y → Bool) (g : X → Y) (xs : List X) → None ≡ position (λ x. p (g x)) xs → None ≡ find p (map g xs)
-find-none p g [] e = refl
-find-none p g (x ∷ xs) e = let h = find-none p g xs in grind (arith, common_steps, nat_tests, prefix_len-le-length (λ y. not (p (g y))) xs)
+pub found-none : {X : Type 0} (p : X → Bool) (xs : List X) → None ≡ position p xs → None ≡ find p xs
+found-none p [] e = refl
+found-none p (x ∷ xs) e = let h = found-none p xs in grind (arith, common_steps, nat_tests, prefix_len-le-length (λ y. not (p y)) xs)
 
 -- ---- the ids of each struct of a definition rise
 

@@ -12,6 +12,7 @@ use Rattle.idl_parse.specs.Parsed.{meant_of}
 use Rattle.idl_parse.specs.declared.definition.Definition.{Definition}
 use Rattle.idl_parse.specs.declared.definition.TypeRef.{TypeRef}
 use Rattle.idl_parse.specs.declared.definition.FieldRef.{FieldRef}
+use Rattle.idl_parse.specs.declared.definition.FieldRefs.{FieldRefs}
 use Rattle.idl_parse.specs.declared.definition.DefaultRef.{DefaultRef}
 use Rattle.idl_parse.specs.declared.definition.DefaultRef.TheVariants as w
 
@@ -37,6 +38,10 @@ fields_in d k fs = map (field_in d k) fs
 -- the field that a reference stands for
 abbrev pub field_of_ref : FieldRef → DefField
 field_of_ref r = field_in r.def.now r.within r.field.now
+
+-- the fields that a reference stands for
+abbrev pub fields_of_refs : FieldRefs → List DefField
+fields_of_refs r = fields_in r.def.now r.within r.fields.now
 
 -- what stands at a number: this enum or struct, or the type of none
 abbrev pub Stands : Definition → ℕ → ℕ → Option DraftNamed → Type 0

@@ -1,10 +1,10 @@
 //! Definitions, and what refers to their types and fields.
 ghost use Rattle.std.specs.Prelude.{◌≡◌, ◌<◌, ◌^◌, true, length, vec_len, string_bytes};
-ghost use Rattle.std.specs.List.{list_any, list_all, Contains};
+ghost use Rattle.std.specs.List.{list_any, list_all, All, Contains};
 ghost use Rattle.idl_tokens.specs.Tokens.{tokens};
 ghost use Rattle.idl_profile.specs.DefText.{DefTokens};
 ghost use Rattle.idl_fields.specs.View.{types_in, nameds_of};
-ghost use Rattle.idl_parse.specs.Drafts.{is_struct, has_few, fields_at};
+ghost use Rattle.idl_parse.specs.Drafts.{is_struct, has_few, rising, fields_at};
 
 use idl_fields::TypeNodes;
 use idl_fields::draft::{DraftField, DraftNamed, TypeNode};
@@ -54,4 +54,16 @@ pub struct FieldRef<'a> {
     pub(crate) within: u32,
     pub(crate) field: &'a DraftField,
     ghost listed: { ∥ Contains (fields_at def.now.named.items within) field.now ∥₁ },
+}
+
+/// The fields of a struct of a definition, in the order of rising ids; of a type that is no struct there are none.
+#[derive(Clone, Copy)]
+pub struct FieldRefs<'a> {
+    pub(crate) def: &'a Definition,
+    // The number of the struct among the enums and structs.
+    pub(crate) within: u32,
+    pub(crate) fields: &'a [DraftField],
+    ghost few: { length fields.now < 2 ^ 32 },
+    ghost in_order: { rising fields.now ≡ true },
+    ghost listed: { ∥ All (Contains (fields_at def.now.named.items within)) fields.now ∥₁ },
 }

@@ -10,7 +10,7 @@ mod parts;
 mod refs;
 mod root;
 
-pub use definition::{DefaultRef, Definition, FieldRef, TypeRef};
+pub use definition::{DefaultRef, Definition, FieldRef, FieldRefs, TypeRef};
 pub use fault::DefFault;
 pub use idl_profile::{Need, TypeKind};
 pub use laws::texts_have_one_answer;

@@ -8,9 +8,9 @@ ghost use Rattle.idl_profile.specs.Measures.{tree, at, scalar_tree};
 ghost use Rattle.idl_fields.specs.Nodes.{type_at};
 ghost use Rattle.idl_fields.specs.View.{types_in};
 ghost use Rattle.idl_parse.specs.Drafts.{has_few, has_rising, rising, draft_fields, fields_at};
-ghost use Rattle.idl_parse.specs.Refs.{type_of_ref, field_of_ref, default_of_ref, fields_in, visible, Stands, element_of, key_of, value_of};
+ghost use Rattle.idl_parse.specs.Refs.{type_of_ref, field_of_ref, fields_of_refs, default_of_ref, fields_in, visible, Stands, element_of, key_of, value_of};
 
-use crate::definition::{DefaultRef, Definition, FieldRef, TypeRef};
+use crate::definition::{DefaultRef, Definition, FieldRef, FieldRefs, TypeRef};
 use crate::halving::place_in;
 use base_lists::text_at;
 use idl_fields::draft::{Default, DraftField, DraftNamed, Id, TypeNode};
@@ -77,6 +77,29 @@ fn named_fields<'a>(def: &'a Definition, within: u32, n: u32) -> &'a [DraftField
         Some(DraftNamed::Enum(_, _)) => &[],
         Some(DraftNamed::Struct(_, fields)) => fields.as_slice(),
         None => &[],
+    }
+}
+
+// The fields of the enum or struct of this number, if it is one of the first so many. An enum has none.
+fn refs_to<'a>(def: &'a Definition, within: u32, n: u32) -> FieldRefs<'a>
+    ensures { fields_of_refs result ≡ fields_of (at (visible def.now within) n) }
+{
+    let fields = named_fields(def, within, n);
+    FieldRefs {
+        def,
+        within: n,
+        fields,
+    }
+}
+
+// No fields.
+fn no_fields<'a>(def: &'a Definition) -> FieldRefs<'a>
+    ensures { fields_of_refs result ≡ [] }
+{
+    FieldRefs {
+        def,
+        within: 0,
+        fields: &[],
     }
 }
 
@@ -159,20 +182,17 @@ impl<'a> TypeRef<'a> {
 }
 
 impl<'a> TypeRef<'a> {
-    // The fields of a struct, and how many enums and structs their types may name.
-    fn fields(self) -> (u32, &'a [DraftField])
-        ensures fields { fields_in self.entry.def.now result.0 result.1.now ≡ fields_of (type_of_ref self.entry) }
-        ensures few { length result.1.now < 2 ^ 32 }
-        ensures rising { rising result.1.now ≡ true }
-        ensures listed { All (Contains (fields_at self.entry.def.now.named.items result.0)) result.1.now }
+    /// The fields of a struct, found once for all that is asked of them. Any other type has none.
+    #[inline]
+    pub fn fields(self) -> FieldRefs<'a>
+        ensures { fields_of_refs result ≡ fields_of (type_of_ref self.entry) }
     {
         match self.node {
-            TypeNode::Enum(n) => (n, named_fields(self.def, self.within, n)),
-            TypeNode::Struct(n) => (n, named_fields(self.def, self.within, n)),
-            TypeNode::Base(_) | TypeNode::List(_) | TypeNode::Set(_) | TypeNode::Map(_, _) => (
-                0,
-                &[],
-            ),
+            TypeNode::Enum(n) => refs_to(self.def, self.within, n),
+            TypeNode::Struct(n) => refs_to(self.def, self.within, n),
+            TypeNode::Base(_) | TypeNode::List(_) | TypeNode::Set(_) | TypeNode::Map(_, _) => {
+                no_fields(self.def)
+            }
         }
     }
 
@@ -181,8 +201,7 @@ impl<'a> TypeRef<'a> {
         requires { kind_of (type_of_ref self) ≡ TypeKind.Struct }
         ensures { result ≡ length (fields_of (type_of_ref self.entry)) }
     {
-        let (_, fields) = self.fields();
-        fields.len() as u32
+        self.fields().count()
     }
 
     /// A struct's field by its place, from 0, in the order of rising ids.
@@ -191,12 +210,7 @@ impl<'a> TypeRef<'a> {
         requires place { i < length (fields_of (type_of_ref self)) }
         ensures { slice_get (fields_of (type_of_ref self.entry)) i ≡ Some (field_of_ref result) }
     {
-        let (within, fields) = self.fields();
-        FieldRef {
-            def: self.def,
-            within,
-            field: &fields[i as usize],
-        }
+        self.fields().at(i)
     }
 
     /// The place of a struct's field by its id, from 0, in the order of rising ids. None exactly where there is none.
@@ -204,8 +218,7 @@ impl<'a> TypeRef<'a> {
         requires { kind_of (type_of_ref self) ≡ TypeKind.Struct }
         ensures { result ≡ position (λ f. int_eq f.id id) (fields_of (type_of_ref self.entry)) }
     {
-        let (_, fields) = self.fields();
-        place_in(fields, Id { id })
+        self.fields().place_of(id)
     }
 
     /// A struct's field by its id. None exactly where there is none.
@@ -213,15 +226,7 @@ impl<'a> TypeRef<'a> {
         requires { kind_of (type_of_ref self) ≡ TypeKind.Struct }
         ensures { option_map field_of_ref result ≡ find (λ f. int_eq f.id id) (fields_of (type_of_ref self.entry)) }
     {
-        let (within, fields) = self.fields();
-        match place_in(fields, Id { id }) {
-            Some(place) => Some(FieldRef {
-                def: self.def,
-                within,
-                field: &fields[place as usize],
-            }),
-            None => None,
-        }
+        self.fields().find(id)
     }
 
     /// A struct's field by its name. None exactly where there is none.
@@ -229,8 +234,69 @@ impl<'a> TypeRef<'a> {
         requires { kind_of (type_of_ref self) ≡ TypeKind.Struct }
         ensures { option_map field_of_ref result ≡ find (λ f. bytes_eq f.name name.now) (fields_of (type_of_ref self.entry)) }
     {
-        let def = self.def;
-        let (within, fields) = self.fields();
+        self.fields().named(name)
+    }
+}
+
+impl<'a> FieldRefs<'a> {
+    /// How many fields there are, fewer than 2^32.
+    #[inline]
+    pub fn count(self) -> u32
+        ensures { result ≡ length (fields_of_refs self.entry) }
+    {
+        self.fields.len() as u32
+    }
+
+    /// The field at a place, from 0.
+    #[inline]
+    pub fn at(self, i: u32) -> FieldRef<'a>
+        requires { i < length (fields_of_refs self) }
+        ensures { slice_get (fields_of_refs self.entry) i ≡ Some (field_of_ref result) }
+    {
+        FieldRef {
+            def: self.def,
+            within: self.within,
+            field: &self.fields[i as usize],
+        }
+    }
+
+    /// The place of the field with an id, from 0. None exactly where there is none.
+    pub fn place_of(self, id: i16) -> Option<u32>
+        ensures { result ≡ position (λ f. int_eq f.id id) (fields_of_refs self.entry) }
+    {
+        place_in(self.fields, Id { id })
+    }
+
+    /// The place of the field with an id, from 0. None exactly where there is none. The place `likely` is tried first.
+    #[inline(always)]
+    pub fn place_near(self, id: i16, likely: u32) -> Option<u32>
+        ensures { result ≡ position (λ f. int_eq f.id id) (fields_of_refs self.entry) }
+    {
+        match self.fields.get(likely as usize) {
+            Some(field) if field.id.id == id => Some(likely),
+            _ => self.place_of(id),
+        }
+    }
+
+    // The field with an id. None exactly where there is none.
+    fn find(self, id: i16) -> Option<FieldRef<'a>>
+        ensures { option_map field_of_ref result ≡ find (λ f. int_eq f.id id) (fields_of_refs self.entry) }
+    {
+        match self.place_of(id) {
+            Some(place) => Some(self.at(place)),
+            None => None,
+        }
+    }
+
+    // The field with a name. None exactly where there is none.
+    fn named(self, name: &str) -> Option<FieldRef<'a>>
+        ensures { option_map field_of_ref result ≡ find (λ f. bytes_eq f.name name.now) (fields_of_refs self.entry) }
+    {
+        let FieldRefs {
+            def,
+            within,
+            fields,
+        } = self;
         for field in fields {
             if text_at(&def.text, field.name) == name {
                 return Some(FieldRef { def, within, field });

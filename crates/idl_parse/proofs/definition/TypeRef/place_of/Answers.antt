@@ -1,15 +1,12 @@
-use Rattle.std.proofs.Common.{◌≡◌, List, w16, of_z, to_z, ap, subst, ◌∙◌, rules}
+use Rattle.std.proofs.Common.{◌≡◌, w16, of_z, to_z, ap, subst, ◌∙◌, rules}
 use Rattle.std.specs.Prelude.{ℤ, position}
 use Rattle.std.specs.Ordering.{int_eq}
 use Rattle.idl_profile.specs.Types.{DefField}
-use Rattle.idl_fields.specs.declared.draft.DraftField.{DraftField}
-use Rattle.idl_parse.specs.Refs.{field_in}
-use Rattle.idl_parse.proofs.HalvingLaws.{mapped}
+use Rattle.idl_parse.specs.Refs.{fields_of_refs}
 use Rattle.idl_parse.proofs.definition.TypeRef.place_of.Goals as goal
 
 pub returns : goal.returns
 returns c =
     let same : to_z w16 (of_z w16 c.args.id) ≡ c.args.id = search rules in
-    let place = subst (λ (z : ℤ). c.place_in.result ≡ position (λ (f : DraftField). int_eq f.id.id z) c.fields.result.1.now) same c.place_in.ensures.place in
-    place ∙ mapped (λ (f : DefField). int_eq f.id c.args.id) (field_in c.args.self.def.now c.fields.result.0) c.fields.result.1.now
-    ∙ ap (position (λ (f : DefField). int_eq f.id c.args.id)) c.fields.ensures.fields
+    subst (λ (z : ℤ). c.place_of.result ≡ position (λ (f : DefField). int_eq f.id z) (fields_of_refs c.fields.result)) same c.place_of.ensures
+    ∙ ap (position (λ (f : DefField). int_eq f.id c.args.id)) c.fields.ensures

@@ -1,6 +1,6 @@
 -- Entries in order: those of one key stand side by side, their places rising.
 use Rattle.std.proofs.Common.{◌≡◌, ℕ, ◌+◌, ◌<◌, ◌≤◌, inl, inr, ⊎_elim, List, length, get_or, pos, false, Ordering, Less, Equal, Greater, nat_cmp, is_lt, refl, sym, ap, ◌∙◌, subst, arith}
-use Rattle.std.specs.List.{Contains}
+use Rattle.std.specs.List.{Contains, AllAdjacentBelow}
 use Rattle.std.specs.List.Sorted.{IsSorted}
 use Rattle.std.specs.Ordering.{ordering_then, ordering_reverse}
 use Rattle.std.specs.Cmp.{IsTotalOrder}
@@ -15,7 +15,7 @@ use Rattle.key_order.specs.declared.repeats.PlacedKey.{PlacedKey}
 use Rattle.key_order.specs.declared.key.Key.TheVariants.{Number}
 use Rattle.key_order.specs.Keys.{value_of, AreOneKind, AreRising}
 use Rattle.key_order.specs.Entries.{keys, places, InTurn, AreInTurn}
-use Rattle.key_order.specs.Neighbours.{HaveOneKey}
+use Rattle.key_order.specs.Neighbours.{HaveOneKey, Climbs}
 use Rattle.key_order.proofs.Order.{value_cmp, value_total, key_less_from_Greater, Equal_from_same}
 use Rattle.key_order.proofs.KeyCmp.{key_cmp-is, same_key, less_splits}
 
@@ -111,3 +111,22 @@ module _ (es : List PlacedKey) (up : IsSorted ghosts.cmp es) where
       let one = kind (key (k + 1)) (key k) (key_there es (k + 1) l) (key_there es k m) in
       let other : value_cmp (key (k + 1)) (key k) ≡ Equal → ⊥ = λ e. apart k l (one_key es k l (sym (same_key (at es (k + 1)).key (at es k).key e))) in
       rw (key_at es k d m, key_at es (k + 1) d l) (key_less_from_Greater (key (k + 1)) (key k) one (greater_from (value_cmp (key (k + 1)) (key k)) (not_under k (k + 1) (omega arith) l) other))
+
+-- ---- entries whose keys climb
+
+module _ (es : List PlacedKey) (up : AllAdjacentBelow Climbs es (length es)) where
+  less : (e f : PlacedKey) → Climbs e f → value_cmp (value_of e.key) (value_of f.key) ≡ Less
+  less e f h = sym (key_cmp-is e.key f.key) ∙ h
+
+  pub climbing_is_sorted : IsSorted ghosts.cmp es
+  climbing_is_sorted k d low high =
+      let e = get_or es k d in
+      let f = get_or es (k + 1) d in
+      let more : value_cmp (value_of f.key) (value_of e.key) ≡ Greater = value_total.antisymm (value_of f.key) (value_of e.key) ∙ ap ordering_reverse (less e f (up k d high)) in
+      ap is_lt (entry_cmp-is f e) ∙ ap (λ o. is_lt (ordering_then o (nat_cmp f.place e.place))) more
+
+  pub climbing_apart : (k : ℕ) → k + 1 < length es → ¬ HaveOneKey es k
+  climbing_apart k h one =
+      let below = less (at es k) (at es (k + 1)) (up k _ h) in
+      let equal = Equal_from_same (value_of (at es k).key) (value_of (at es (k + 1)).key) (one_key-same es k h one) in
+      cc

@@ -1,6 +1,9 @@
 -- Neighbours of one key.
 use Rattle.std.specs.Prelude.{◌≡◌, ℕ, ◌+◌, ◌<◌, ◌≤◌, List, slice_index, slice_index_or, Option, Some, None}
+use Rattle.std.specs.declared.cmp.Ordering.TheVariants.{Less}
 use Rattle.frozen_model.specs.Values.{Absent}
+use Rattle.key_order.specs.contracts.key.KeyOrd.TheImpl.{ghosts}
+use Rattle.key_order.specs.declared.key.Key.{Key}
 use Rattle.key_order.specs.Entries.{keys, places}
 use Rattle.key_order.specs.declared.repeats.PlacedKey.{PlacedKey}
 use Rattle.key_order.specs.declared.repeats.Repeat.{Repeat}
@@ -9,7 +12,15 @@ use Rattle.key_order.specs.declared.repeats.Repeat.{Repeat}
 abbrev pub HaveOneKey : List PlacedKey → ℕ → Type 0
 HaveOneKey es k = slice_index_or (keys es) k Absent ≡ slice_index_or (keys es) (k + 1) Absent
 
--- the places of these two
+-- a key is below another in the order of keys
+abbrev pub IsBelow : Key → Key → Type 0
+IsBelow k l = ghosts.cmp k l ≡ Less
+
+-- the key of an entry is below that of another
+abbrev pub Climbs : PlacedKey → PlacedKey → Type 0
+Climbs e f = IsBelow e.key f.key
+
+-- the places of two neighbours
 abbrev pub places_at : List PlacedKey → ℕ → Repeat
 places_at es k = record { first = slice_index (places es) k; second = slice_index (places es) (k + 1) }
 

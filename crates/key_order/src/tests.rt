@@ -54,6 +54,8 @@ fn the_least_repeat_is_found(rt: HostRuntime) -> Result<(), Fail> {
     let three = Key::Number(3);
     assert_eq!(rt; repeat_of(alloc, &[])?, None);
     assert_eq!(rt; repeat_of(alloc, &[one])?, None);
+    assert_eq!(rt; repeat_of(alloc, &[one, two, three])?, None);
+    assert_eq!(rt; repeat_of(alloc, &[one, one, two])?, places_of(0, 1));
     assert_eq!(rt; repeat_of(alloc, &[three, one, two])?, None);
     assert_eq!(rt; repeat_of(alloc, &[two, one, three, two])?, places_of(0, 3));
     assert_eq!(rt;

@@ -97,28 +97,38 @@ pub fn read_number(room: u32, greatest: u64, bytes: &[u8]) -> Result<(u64, &[u8]
     read_digits(room, greatest, bytes)
 }
 
-/// The same, a byte at a time.
+/// The same, a digit at a time. The number is `sum`, and `weight` times the number up to `most` that `rest` begins
+/// with.
 fn read_digits(room: u32, greatest: u64, bytes: &[u8]) -> Result<(u64, &[u8]), Stop>
     ensures reads { Meets (λ x. (x.0, x.1.now)) result (number room greatest bytes.now) }
     ensures bound { IfOk result (λ x. x.0 ≤ greatest) }
     ensures shorter { IfOk result (λ x. length x.1.now < length bytes.now) }
 {
-    let Some((first, rest)) = bytes.split_first() else {
-        return Err(Stop::Ended);
-    };
-    let first = u64::from(*first);
-    if first < 128 {
-        if first > greatest {
-            return Err(Stop::Refused(bytes.len()));
+    let mut left = room;
+    let mut most = greatest;
+    let mut rest = bytes;
+    let mut sum = 0;
+    let mut weight = 1_u64;
+    'digits: while let Some((first, behind)) = rest.split_first() {
+        let first = u64::from(*first);
+        if first < 128 {
+            if first > most {
+                return Err(Stop::Refused(rest.len()));
+            }
+            return Ok((sum + weight * first, behind));
         }
-        return Ok((first, rest));
+        let low = first - 128;
+        if left == 0 || low > most {
+            return Err(Stop::Refused(rest.len()));
+        }
+        sum += weight * low;
+        // It wraps only where no digit but 0 may follow.
+        weight = weight.wrapping_mul(128);
+        most = (most - low) / 128;
+        left -= 1;
+        rest = behind;
     }
-    let low = first - 128;
-    if room == 0 || low > greatest {
-        return Err(Stop::Refused(bytes.len()));
-    }
-    let (high, rest) = read_digits(room - 1, (greatest - low) / 128, rest)?;
-    Ok((low + 128 * high, rest))
+    Err(Stop::Ended)
 }
 
 /// An `i16` in at most 3 bytes.

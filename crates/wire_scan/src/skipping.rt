@@ -15,6 +15,7 @@ use exact_reading::Stop;
 
 /// The bytes after a value of a kind that is no container.
 #[tactic(auto, unfolding(compact_wire::specs::Reads::scalar, compact_wire::specs::Reads::element_flag, compact_wire::specs::Reads::signed_byte, exact_reading::specs::Reading::taken))]
+#[inline(always)]
 pub fn skip_scalar(kind: Kind, bytes: &[u8]) -> Result<&[u8], Stop>
     ensures reads { Meets (λ x. x.now) result (left (scalar kind bytes.now)) }
     ensures shorter { IfOk result (λ x. length x.now < length bytes.now) }

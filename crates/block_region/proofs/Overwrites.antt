@@ -1,6 +1,6 @@
 -- Bytes of a block, written over.
-use Rattle.std.proofs.Common.{◌≡◌, ℕ, ◌+◌, ◌-◌, ◌≤◌, List, ◌++◌, length, take, drop, replicate, ap, sym, subst, ◌∙◌, arith, append_assoc}
-use Rattle.std.proofs.lemmas.List.{length-append, length-drop, length-take-le, length-replicate, drop-drop, take_all, take_at, drop_at, take-take, take-append-le, drop-append-le, take-append-drop, replicate-append-replicate}
+use Rattle.std.proofs.Common.{◌≡◌, ℕ, ◌+◌, ◌-◌, ◌≤◌, List, ◌++◌, length, take, drop, replicate, ap, sym, subst, ◌∙◌, arith, append_assoc, refl}
+use Rattle.std.proofs.lemmas.List.{length-append, length-drop, length-take-le, length-replicate, drop-replicate, drop-drop, take_all, take_at, drop_at, take-take, take-append-le, drop-append-le, take-append-drop, replicate-append-replicate}
 use Rattle.std.proofs.Math.Seq.{drop-append_seam}
 use Rattle.block_region.specs.Space.{Space, Span, IsRegion, IsTaken, overwritten, written, returned, in_use, grown, block_bytes}
 use Rattle.block_region.specs.Laws.{WritesAlone}
@@ -92,6 +92,25 @@ zeros_taken xs ys start len size here le same =
           ∙ append_assoc xs (replicate len 0) (replicate (size - length ys) 0)
           ∙ ap (λ z. xs ++ z) (replicate-append-replicate len (size - length ys) 0)
           ∙ ap (λ k. xs ++ replicate k 0) left,
+      long,
+    )
+
+-- bytes behind those in use are written over zeros
+pub appended : (xs ys ws : List ℕ) (size : ℕ) → length xs + length ws ≤ size → ys ≡ xs ++ ws
+    → (ys ++ replicate (size - length ys) 0 ≡ overwritten (xs ++ replicate (size - length xs) 0) (length xs) ws) × (length ys ≡ length xs + length ws)
+appended xs ys ws size le same =
+    let zs : List ℕ = replicate (size - length xs) 0 in
+    let long : length ys ≡ length xs + length ws = omega (arith, ap length same, length-append xs ws) in
+    let left : (size - length xs) - length ws ≡ size - length ys = omega (arith, long) in
+    let rest : drop (length xs + length ws) (xs ++ zs) ≡ replicate (size - length ys) 0 =
+    sym (drop-drop (length ws) (length xs) (xs ++ zs))
+    ∙ ap (drop (length ws)) (drop_at xs zs (length xs) refl)
+    ∙ drop-replicate {X = ℕ} (length ws) (size - length xs) 0
+    ∙ ap (λ n. replicate n 0) left in (
+      ap (λ z. z ++ replicate (size - length ys) 0) same
+          ∙ append_assoc xs ws (replicate (size - length ys) 0)
+          ∙ ap (λ z. xs ++ (ws ++ z)) (sym rest)
+          ∙ ap (λ z. z ++ (ws ++ drop (length xs + length ws) (xs ++ zs))) (sym (take_at xs zs (length xs) refl)),
       long,
     )
 

@@ -88,6 +88,25 @@ impl Region {
         Some(Block::new(start, len))
     }
 
+    /// Hands out as many bytes as `from` has, and writes it there. `None` comes where fewer are left, and then nothing
+    /// changes.
+    #[inline]
+    pub fn append(&mut self, from: &[u8]) -> Option<Block>
+        ensures enough { IsSome result ↔ (self.old.taken + length from.now ≤ length self.old.bytes) }
+        ensures block { IfSome result (λ b. b ≡ record { start = self.old.taken; len = length from.now }) }
+        ensures after { MatchOption result (self.new ≡ self.old)
+            (λ b. self.new ≡ written (handed_out self.old b) b from.now) }
+        ensures alone { IfSome result (λ b. WritesAlone (handed_out self.old b) b from.now) }
+        ensures region { IsRegion self.new }
+    {
+        if from.len() > self.size - self.bytes.len() {
+            return None;
+        }
+        let start = self.bytes.len();
+        self.bytes.extend_from_slice(from).unwrap();
+        Some(Block::new(start, from.len()))
+    }
+
     /// The block's bytes, for writing. All other bytes stay.
     #[inline]
     pub fn lend(&mut self, block: &Block) -> &mut [u8]

@@ -27,3 +27,13 @@ fn blocks_keep_their_places_in_a_greater_region(rt: HostRuntime) -> Result<(), F
     assert_eq!(rt; great.bytes(&block), b"ab".as_slice());
     Ok(())
 }
+
+#[test]
+fn bytes_are_appended_while_there_is_room(rt: HostRuntime) -> Result<(), Fail> {
+    let mut region = Region::reserve(rt.alloc(), 3)?;
+    let first = region.append(b"ab").ok_or("two of three bytes")?;
+    assert!(rt; region.append(b"cd").is_none());
+    assert_eq!(rt; region.bytes(&first), b"ab".as_slice());
+    assert_eq!(rt; region.finish().as_slice(), b"ab\0".as_slice());
+    Ok(())
+}

@@ -20,6 +20,7 @@ pub struct Pool {
 }
 
 // Adds bytes to those that are in use, where there is room for them.
+#[inline]
 fn append(region: &mut Region, x: &[u8]) -> Block
     requires { region.old.taken + length x.now ≤ length region.old.bytes }
     ensures added { in_use region.new ≡ in_use region.old ++ x.now }
@@ -28,9 +29,7 @@ fn append(region: &mut Region, x: &[u8]) -> Block
     ensures taken { region.new.taken ≡ region.old.taken + length x.now }
     ensures size { length region.new.bytes ≡ length region.old.bytes }
 {
-    let block = region.take(x.len()).unwrap();
-    region.copy(&block, x);
-    block
+    region.append(x).unwrap()
 }
 
 impl Pool {

@@ -1,9 +1,10 @@
 -- The fields of a struct without faults, as they are read and put.
-use Rattle.std.proofs.Common.{◌≡◌, ◌⊎◌, inl, inr, ℕ, zero, suc, ◌+◌, ◌-◌, ◌≤◌, ◌<◌, List, [], ◌∷◌, ◌++◌, length, map, take, drop, set, Bool, true, false, ◌||◌, cond, Option, Some, None, Result, Ok, Err, refl, sym, ap, subst, ◌∙◌, arith, length-append, append_assoc, append-nil}
+use Rattle.std.proofs.Common.{◌≡◌, ◌⊎◌, inl, inr, ℕ, zero, suc, ◌+◌, ◌-◌, ◌≤◌, ◌<◌, List, [], ◌∷◌, ◌++◌, length, map, take, drop, set, get_or, Bool, true, false, ◌||◌, cond, Option, Some, None, Result, Ok, Err, refl, sym, ap, subst, ◌∙◌, arith, length-append, append_assoc, append-nil}
 use Rattle.std.specs.Prelude.{ℤ, pos, slice_get, find, option_map}
 use Rattle.std.specs.List.{AllByRecursion}
 use Rattle.std.specs.Ordering.{int_eq}
-use Rattle.std.proofs.lemmas.List.{drop-set-add, take-set-le, take-append-le, map-append}
+use Rattle.std.proofs.lemmas.Bool.{cases_lt}
+use Rattle.std.proofs.lemmas.List.{get_or-set_same, drop-set-add, take-set-le, take-append-le, map-append}
 use Rattle.exact_reading.specs.declared.stop.Stop.{Stop}
 use Rattle.exact_reading.specs.Reading.{◌>>=◌, and_then, pure, seen}
 use Rattle.exact_reading.proofs.Items.{ok_is, bind_ok}
@@ -24,7 +25,7 @@ use Rattle.typed_reading.specs.Marks.{Marked, place_in}
 use Rattle.typed_reading.specs.Meaning.{given, field_value, reading, readings, meaning}
 use Rattle.typed_reading.proofs.FieldLaws.{place_is, place_find, place_found, marked_more}
 use Rattle.typed_reading.proofs.Valued.{none_of, clean_below}
-use Rattle.compact_codec.specs.Building.{IsClean, IsFieldClean, with_value, need_in, standing, ids_of, AreFresh, IsKnown, Holds, IsPut}
+use Rattle.compact_codec.specs.Building.{IsClean, IsFieldClean, with_value, need_in, standing, ids_of, AreFresh, IsKnown, Holds, IsPut, IsBehind, AreSet}
 use Rattle.compact_codec.proofs.Clean.{clean_code}
 use Rattle.compact_codec.proofs.Gathered.{fresh_more, int_other}
 
@@ -172,6 +173,13 @@ left_begin t levels bytes h clean = by (all_fields levels (value levels) bytes) 
         )
     by (Err d) e g = absurd g
 
+-- the same where the fields of the type are told on their own
+pub fields_begin : (t : TypeTree) (fs : List DefField) → fs ≡ fields_of t → (levels : ℕ) (bytes : List ℕ) → AreBytes bytes → IsClean t (and_then (all_fields levels (value levels)) (λ xs. pure (structure xs)) bytes)
+    → (code t ≡ 12) × Left levels fs bytes [] (pos 0) bytes
+fields_begin t fs same levels bytes h clean =
+    let r = left_begin t levels bytes h clean in
+    (r.0, subst (λ (gs : List DefField). Left levels gs bytes [] (pos 0) bytes) (sym same) r.1)
+
 read_more : (rs qs : List (ℤ × Value)) (id : ℤ) (o : Option TypeTree) (f : TypeTree → Value) → rs ++ reading id o f qs ≡ (rs ++ reading id o f []) ++ qs
 read_more rs qs id None f = ap (λ (zs : List (ℤ × Value)). zs ++ qs) (sym (append-nil rs))
 read_more rs qs id (Some t) f = sym (append_assoc rs ((id, f t) ∷ []) qs)
@@ -227,6 +235,18 @@ module _ (levels : ℕ) (fs : List DefField) (bytes : List ℕ) (rs : List (ℤ 
       by x None e b q = absurd (unknown_at fs id e k)
       by x (Some f) e true q = absurd cc
       by x (Some f) e false q = refl
+
+-- ---- marks that are set
+
+set_kept : (ms : List Bool) (i j : ℕ) → get_or ms j false ≡ true → get_or (set ms i true) j false ≡ true
+set_kept [] i j e = absurd cc
+set_kept (m ∷ ms) zero zero e = refl
+set_kept (m ∷ ms) zero (suc j) e = e
+set_kept (m ∷ ms) (suc i) zero e = e
+set_kept (m ∷ ms) (suc i) (suc j) e = set_kept ms i j e
+
+set_there : (ms : List Bool) (i j : ℕ) → i ≡ j → i < length ms → get_or (set ms i true) j false ≡ true
+set_there ms i j e lt = ap (λ (k : ℕ). get_or (set ms i true) k false) (sym e) ∙ get_or-set_same ms i true false lt
 
 -- ---- fields that are put
 
@@ -296,6 +316,21 @@ module _ (fs : List DefField) (front : List Value) (rs : List (ℤ × Value)) (i
   put_on None p new put = unknown_put (sym p) put.0 put.1 put.2
   put_on (Some i) p new put = known_put i (sym p) (new (known_at fs id i (sym p))) put.0 put.1 put.2 put.3 put.4
 
+  -- the leading fields that stood, behind it
+  pub filled_on : (place : Option ℕ) → place ≡ place_in fs id → IsPut fs place id b2 w vs us is js ms ns → (n m : ℕ) → IsBehind place n m → AreSet n (drop b2 ms) → AreSet m (drop b2 ns)
+  filled_on None p put n m (inl same) set i lt = ap (λ (zs : List Bool). get_or (drop b2 zs) i false) put.2 ∙ set i (omega (arith, lt, same))
+  filled_on None p put n m (inr q) set i lt = absurd (let no : None ≡ Some n = q.0 in cc)
+  filled_on (Some j) p put n m (inl same) set i lt =
+      ap (λ (zs : List Bool). get_or (drop b2 zs) i false) put.4 ∙ ap (λ (zs : List Bool). get_or zs i false) (drop-set-add b2 ms j true)
+      ∙ set_kept (drop b2 ms) j i (set i (omega (arith, lt, same)))
+  filled_on (Some j) p put n m (inr q) set i lt =
+      let here : j ≡ n = cc in
+      ap (λ (zs : List Bool). get_or (drop b2 zs) i false) put.4 ∙ ap (λ (zs : List Bool). get_or zs i false) (drop-set-add b2 ms j true)
+      ∙ elim (cases_lt i n) [
+        | inl old ↦ set_kept (drop b2 ms) j i (set i old)
+        | inr le ↦ (let this : j ≡ i = omega (arith, here, le, lt, q.1) in set_there (drop b2 ms) j i this (h.marked id j (sym p)).0)
+      ]
+
 -- ---- a field's own value
 
 of_none : (o : Option DefField) (f : DefField) (again : Bool) (x : Node) (at : ℕ) → o ≡ Some f → of_field (option_map type_of_field o) again x (λ t. faults x t at) at ≡ [] → faults x f.type at ≡ []
@@ -313,13 +348,15 @@ field_not fs id r e h q = subst (IsFieldClean fs id) q h
 
 -- ---- the whole struct
 
-pub struct_built : (t : TypeTree) (levels : ℕ) (bytes : List ℕ) (rs : List (ℤ × Value)) (before : ℤ) (rest after : List ℕ) (l : Left levels (fields_of t) bytes rs before rest) → field_start levels before rest ≡ Ok (None, after) → (vs us : List Value)
-    → us ≡ vs ++ struct_with (fields_of t) (map (field_value rs) (fields_of t)) ∷ [] → seen (with_value t vs) (and_then (all_fields levels (value levels)) (λ xs. pure (structure xs)) bytes) ≡ Ok (us, after)
-struct_built t levels bytes rs before rest after l h vs us e =
-    let d = left_done levels (fields_of t) bytes rs before rest after l h in
+pub struct_built : (t : TypeTree) (fs : List DefField) → fs ≡ fields_of t → (levels : ℕ) (bytes : List ℕ) (rs : List (ℤ × Value)) (before : ℤ) (rest after : List ℕ) (l : Left levels fs bytes rs before rest) → field_start levels before rest ≡ Ok (None, after) → (vs us : List Value)
+    → us ≡ vs ++ struct_with fs (map (field_value rs) fs) ∷ [] → seen (with_value t vs) (and_then (all_fields levels (value levels)) (λ xs. pure (structure xs)) bytes) ≡ Ok (us, after)
+struct_built t fs same levels bytes rs before rest after l h vs us e =
+    let d = left_done levels fs bytes rs before rest after l h in
+    let all : readings l.whole (fields_of t) ≡ rs = ap (readings l.whole) (sym same) ∙ d.1 in
+    let put : us ≡ vs ++ struct_with (fields_of t) (map (field_value rs) (fields_of t)) ∷ [] = e ∙ ap (λ (gs : List DefField). vs ++ struct_with gs (map (field_value rs) gs) ∷ []) same in
     ap (λ (r : Result (Fields × List ℕ) Stop). seen (with_value t vs) (r >>= λ p. Ok (structure p.0, p.1))) l.whole_is
-    ∙ ap (λ (qs : List (ℤ × Value)). Ok (vs ++ struct_with (fields_of t) (map (field_value qs) (fields_of t)) ∷ [], l.end)) d.1
-    ∙ ap (λ (b : List ℕ). Ok (vs ++ struct_with (fields_of t) (map (field_value rs) (fields_of t)) ∷ [], b)) d.0 ∙ ap (λ (zs : List Value). Ok (zs, after)) (sym e)
+    ∙ ap (λ (qs : List (ℤ × Value)). Ok (vs ++ struct_with (fields_of t) (map (field_value qs) (fields_of t)) ∷ [], l.end)) all
+    ∙ ap (λ (b : List ℕ). Ok (vs ++ struct_with (fields_of t) (map (field_value rs) (fields_of t)) ∷ [], b)) d.0 ∙ ap (λ (zs : List Value). Ok (zs, after)) (sym put)
 
 -- ---- nothing stood, and nothing was put
 

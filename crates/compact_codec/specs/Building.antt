@@ -1,12 +1,17 @@
 -- What is read where no node has a fault, and the trees that stand on a builder's stack for it.
-use Rattle.std.specs.Prelude.{◌≡◌, ◌⊎◌, ◌≤◌, ◌+◌, ℕ, ℤ, pos, negsuc, List, [], ◌∷◌, ◌++◌, map}
-use Rattle.std.specs.Prelude.{slice_get, slice_set, Bool, true, false, cond}
+use Rattle.std.specs.Prelude.{◌≡◌, ◌⊎◌, ◌≤◌, ◌<◌, ◌+◌, ℕ, ℤ, pos, negsuc, List, [], ◌∷◌, ◌++◌, map}
+use Rattle.std.specs.Prelude.{slice_get, slice_set, slice_index_or, Bool, true, false, cond}
 use Rattle.std.specs.Prelude.{Option, Some, None, Result, Ok, Err}
 use Rattle.std.specs.Ordering.{int_eq}
 use Rattle.exact_reading.specs.declared.stop.Stop.{Stop}
 use Rattle.frozen_model.specs.Values.{Value, Absent}
 use Rattle.compact_wire.specs.Node.{Node, Nodes, Pairs, no_pairs, pair}
-use Rattle.idl_profile.specs.Types.{TypeTree, DefField}
+use Rattle.idl_profile.specs.Types.{TypeTree, DefField, fields_of}
+use Rattle.idl_parse.specs.declared.definition.FieldRefs.{FieldRefs}
+use Rattle.idl_parse.specs.declared.definition.TypeRef.{TypeRef}
+use Rattle.idl_parse.specs.Refs.{type_of_ref, fields_of_refs}
+use Rattle.type_kinds.specs.Accepted.{IsAccepted}
+use Rattle.type_kinds.specs.Laws.{Any}
 use Rattle.idl_profile.specs.declared.kinds.Need.{Need}
 use Rattle.idl_profile.specs.declared.kinds.Need.TheVariants.{Plain}
 use Rattle.typed_reading.specs.Faults.{faults, faults_in, faults_in_pairs, of_field}
@@ -106,3 +111,17 @@ IsPut fs (Some i) id base w vs us is js ms ns =
     (f : DefField) × (slice_get fs i ≡ Some f)
     × (us ≡ vs ++ given f.need (Some (meaning w f.type)) Absent ∷ []) × (js ≡ is ++ id ∷ [])
     × (ns ≡ slice_set ms (base + i) true)
+
+-- these are the fields of an accepted type
+pub record AreOfAccepted (fields : FieldRefs) : Type 0 where
+  pub ty : TypeRef
+  pub are : fields_of_refs fields ≡ fields_of (type_of_ref ty)
+  pub accepted : IsAccepted Any (type_of_ref ty)
+
+-- so many leading marks are set
+abbrev pub AreSet : ℕ → List Bool → Type 0
+AreSet n marks = (i : ℕ) → i < n → slice_index_or marks i false ≡ true
+
+-- the number of leading fields that stood is the same, or one more where the field stands behind them
+abbrev pub IsBehind : Option ℕ → ℕ → ℕ → Type 0
+IsBehind place n m = (m ≡ n) ⊎ ((place ≡ Some n) × (m ≡ n + 1))

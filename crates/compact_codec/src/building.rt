@@ -4,25 +4,23 @@ ghost use Rattle.std.specs.Prelude.{◌≡◌, Ok, IfOk, OnOk};
 ghost use Rattle.exact_reading.specs.Reading.{and_then, pure, seen};
 ghost use Rattle.compact_wire.specs.Node.{Node, list, set, structure};
 ghost use Rattle.compact_wire.specs.Reads.{value, items, sequence, mapping, pairs, typed, all_fields};
-ghost use Rattle.idl_profile.specs.Types.{kind_of, fields_of};
-ghost use Rattle.idl_profile.specs.declared.kinds.TypeKind.{TypeKind};
-ghost use Rattle.idl_parse.specs.Refs.{type_of_ref};
+ghost use Rattle.idl_parse.specs.Refs.{type_of_ref, fields_of_refs};
 ghost use Rattle.type_kinds.specs.Accepted.{IsAccepted};
 ghost use Rattle.type_kinds.specs.Laws.{Any};
 ghost use Rattle.typed_tree.specs.Trees.{trees};
 ghost use Rattle.typed_reading.specs.Marks.{place_in};
-ghost use Rattle.compact_codec.specs.Building.{IsClean, AreClean, ArePairsClean, IsFieldClean};
+ghost use Rattle.compact_codec.specs.Building.{IsClean, AreClean, ArePairsClean, IsFieldClean, AreOfAccepted};
 ghost use Rattle.compact_codec.specs.Building.{with_value, with_values, with_pairs, IsPut};
 
-use crate::fields::{finish_struct, wrap};
+use crate::fields::{filled_behind, finish_struct, wrap};
 use crate::leaves::{build_leaf, join_map, join_set};
 use compact_wire::{
     FieldBefore, FieldType, Kind, PairKinds, element_of, read_count, read_field_start,
     read_list_header, read_map_header, read_number,
 };
 use std::alloc::AllocError;
-use thrift_idl::TypeRef;
-use typed_reading::{add_marks, find_place, place_behind, set_mark};
+use thrift_idl::{FieldRefs, TypeRef};
+use typed_reading::{add_marks, place_behind, set_mark};
 use typed_tree::Builder;
 use wire_scan::skip_typed;
 
@@ -249,11 +247,11 @@ fn build_typed<'a>(
     }
 }
 
-/// The field at a place of a struct's type, if it is known; its id is added, and it is marked above a base.
+/// The field at a place among a struct's, if it is known; its id is added, and it is marked above a base.
 #[cycle(build)]
 #[inline(always)]
 fn build_field<'a>(
-    ty: TypeRef<'_>,
+    fields: FieldRefs<'_>,
     place: Option<u32>,
     id: i16,
     levels: u32,
@@ -264,13 +262,12 @@ fn build_field<'a>(
     marks: &mut Vec<bool>,
     base: usize,
 ) -> Result<&'a [u8], AllocError>
-    requires accepted { IsAccepted Any (type_of_ref ty) }
-    requires is_struct { kind_of (type_of_ref ty) ≡ TypeKind.Struct }
-    requires place { place ≡ place_in (fields_of (type_of_ref ty)) id }
-    requires clean { IsFieldClean (fields_of (type_of_ref ty)) id
+    requires accepted { AreOfAccepted fields }
+    requires place { place ≡ place_in (fields_of_refs fields) id }
+    requires clean { IsFieldClean (fields_of_refs fields) id
         (typed (value levels) field_type bytes.now) }
     ensures { IfOk result (λ rest. (w : Node) × (typed (value levels) field_type bytes.now ≡ Ok (w, rest.now))
-        × IsPut (fields_of (type_of_ref ty.entry)) place id base w (trees builder.old) (trees builder.new)
+        × IsPut (fields_of_refs fields.entry) place id base w (trees builder.old) (trees builder.new)
         ids.old.items ids.new.items marks.old.items marks.new.items) }
 {
     let Some(place) = place else {
@@ -281,7 +278,7 @@ fn build_field<'a>(
     };
     set_mark(marks, base, place);
     ids.push(id)?;
-    let field = ty.field_at(place);
+    let field = fields.at(place);
     let rest = build_typed(field.ty(), levels, field_type, bytes, builder, ids, marks)?;
     wrap(field.need(), builder)?;
     Ok(rest)
@@ -309,22 +306,25 @@ fn build_struct<'a>(
 {
     let first_id = ids.len();
     let first_mark = marks.len();
-    add_marks(marks, ty)?;
+    let fields = ty.fields();
+    add_marks(marks, fields)?;
     let mut rest = bytes;
     let mut before = FieldBefore { id: 0 };
     let mut likely = 0;
-    'fields: loop {
+    let mut filled = 0;
+    'each: loop {
         let Ok((start, behind)) = read_field_start(levels, before, rest) else {
             unreachable!()
         };
         let Some((id, field_type)) = start else {
-            finish_struct(ty, builder, ids, marks, first_id, first_mark)?;
+            finish_struct(fields, builder, ids, marks, first_id, first_mark, filled)?;
             return Ok(behind);
         };
-        let place = find_place(ty, id, likely);
+        let place = fields.place_near(id, likely);
         likely = place_behind(place, likely);
+        filled = filled_behind(place, filled);
         rest = build_field(
-            ty, place, id, levels, field_type, behind, builder, ids, marks, first_mark,
+            fields, place, id, levels, field_type, behind, builder, ids, marks, first_mark,
         )?;
         before = FieldBefore { id };
     }

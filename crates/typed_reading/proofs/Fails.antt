@@ -1,5 +1,5 @@
 -- Errors of the parts are errors of the whole.
-use Rattle.std.proofs.Common.{◌≡◌, ◌-◌, ◌<◌, ℕ, List, [], Some, Result, Ok}
+use Rattle.std.proofs.Common.{◌≡◌, ◌-◌, ◌<◌, ℕ, List, [], Some, Result, Ok, Err, subst}
 use Rattle.std.specs.Prelude.{ℤ}
 use Rattle.exact_reading.specs.declared.stop.Stop.{Stop}
 use Rattle.exact_reading.specs.declared.stop.ReadError.{ReadError}
@@ -9,7 +9,7 @@ use Rattle.compact_wire.specs.declared.header.FieldType.{FieldType}
 use Rattle.compact_wire.specs.declared.kind.Kind.{Kind}
 use Rattle.compact_wire.specs.Node.{Node, structure, Fields}
 use Rattle.compact_wire.specs.Reads.{items, pairs, value, typed, field_start}
-use Rattle.idl_profile.specs.Types.{TypeTree, fields_of}
+use Rattle.idl_profile.specs.Types.{TypeTree, DefField, fields_of}
 use Rattle.exact_reading.specs.Reading.{seen}
 use Rattle.wire_scan.proofs.Seen.{items_end, item_end, Reading, value_end}
 use Rattle.frozen_model.specs.Values.{Value}
@@ -40,12 +40,13 @@ module _ (t : TypeTree) (s : Progress) (levels : ℕ) (r : Result (Fields × Lis
   whole_fails errors.NoMemory f = tt
   whole_fails (errors.Stop d) f = struct_err t s r d f
 
-  pub field_fails : (e : ReadError Stop) (known : Progress) (ids : List ℤ) (before id : ℤ) (ty : FieldType) (rest mid : List ℕ)
-      → Reading (after_field (fields_of t)) (after_fields (fields_of t)) (no_more_fields (fields_of t)) (one_more_field (fields_of t)) levels (known, ids) before rest (seen (after_fields (fields_of t) (inside s, [])) r)
+  pub field_fails : (fs : List DefField) → fs ≡ fields_of t → (e : ReadError Stop) (known : Progress) (ids : List ℤ) (before id : ℤ) (ty : FieldType) (rest mid : List ℕ)
+      → Reading (after_field fs) (after_fields fs) (no_more_fields fs) (one_more_field fs) levels (known, ids) before rest (seen (after_fields fs (inside s, [])) r)
       → field_start levels before rest ≡ Ok (Some (id, ty), mid)
-      → Fails e (seen (λ (w : Node). (after_field (fields_of t) (known, ids) id w).0) (typed (value levels) ty mid))
+      → Fails e (seen (λ (w : Node). (after_field fs (known, ids) id w).0) (typed (value levels) ty mid))
       → Fails e (seen (after t s) (r >>= λ p. Ok (structure p.0, p.1)))
-  field_fails errors.NoMemory known ids before id ty rest mid h start f = tt
-  field_fails (errors.Stop d) known ids before id ty rest mid h start f =
-      struct_err t s r d (value_end (after_field (fields_of t)) (after_fields (fields_of t)) (no_more_fields (fields_of t)) (one_more_field (fields_of t)) levels (known, ids) d before id ty rest mid (seen (after_fields (fields_of t) (inside s, [])) r) h start
-      (field_err (fields_of t) known ids id (typed (value levels) ty mid) d f))
+  field_fails fs is errors.NoMemory known ids before id ty rest mid h start f = tt
+  field_fails fs is (errors.Stop d) known ids before id ty rest mid h start f =
+      let e = value_end (after_field fs) (after_fields fs) (no_more_fields fs) (one_more_field fs) levels (known, ids) d before id ty rest mid (seen (after_fields fs (inside s, [])) r) h start
+      (field_err fs known ids id (typed (value levels) ty mid) d f) in
+      struct_err t s r d (subst (λ (gs : List DefField). seen (after_fields gs (inside s, [])) r ≡ Err d) is e)

@@ -1,6 +1,6 @@
 -- Fields of a type by their ids, and marks of those that stood.
-use Rattle.std.proofs.Common.{◌≡◌, ◌≢◌, ℕ, zero, suc, ◌+◌, ◌<◌, ◌≤◌, nat_lt, List, [], ◌∷◌, length, drop, set, replicate, get_or, Bool, true, false, ◌||◌, cond, Option, Some, None, refl, sym, ap, ◌∙◌, arith}
-use Rattle.std.specs.Prelude.{ℤ, nat_abs, slice_get, option_map, find, ◌&&◌, not}
+use Rattle.std.proofs.Common.{◌≡◌, ◌≢◌, ℕ, zero, suc, ◌+◌, ◌<◌, ◌≤◌, nat_lt, List, [], ◌∷◌, length, drop, set, replicate, get_or, Bool, true, false, ◌||◌, cond, ◌⊎◌, inl, inr, Option, Some, None, refl, sym, ap, ◌∙◌, arith}
+use Rattle.std.specs.Prelude.{ℤ, nat_abs, slice_get, option_map, IfSome, find, ◌&&◌, not}
 use Rattle.std.specs.List.{position_or_len}
 use Rattle.std.specs.Ordering.{int_eq}
 use Rattle.std.proofs.lemmas.Bool.Decides.{Decides-int_eq, nat_tests}
@@ -12,7 +12,7 @@ use Rattle.type_kinds.specs.Defaults.{ids_of_fields}
 use Rattle.type_kinds.specs.Laws.{Any}
 use Rattle.typed_reading.specs.declared.fault.NodeFault.TheVariants.{MissingRequired}
 use Rattle.typed_reading.specs.Faults.{has_id, is_among, missing, is_required}
-use Rattle.typed_reading.specs.Marks.{place_in, Marked}
+use Rattle.typed_reading.specs.Marks.{place_in, Marked, ArePlaced, HaveStood}
 
 -- ---- places
 
@@ -39,6 +39,11 @@ drop_get [] i f e = absurd cc
 drop_get (g ∷ gs) zero f e = let k : g ≡ f = cc in ap (λ (h : DefField). h ∷ gs) k
 drop_get (g ∷ gs) (suc i) f e = let s : suc i + 1 ≡ suc (i + 1) = omega arith in rw s (drop_get gs i f e)
 
+pub field_there : (fs : List DefField) (i : ℕ) → i < length fs → (f : DefField) × (slice_get fs i ≡ Some f)
+field_there [] i l = absurd (omega (arith, l))
+field_there (g ∷ gs) zero l = (g, refl)
+field_there (g ∷ gs) (suc i) l = field_there gs i (omega (arith, l))
+
 pub drop_all : (fs : List DefField) (i : ℕ) → length fs ≤ i → drop i fs ≡ []
 drop_all [] zero h = refl
 drop_all [] (suc i) h = refl
@@ -58,6 +63,10 @@ place_inside (f ∷ fs) id i e = by (int_eq f.id id) (λ j. place_inside fs id j
     by : (b : Bool) → ((j : ℕ) → place_in fs id ≡ Some j → j < length fs) → cond b (Some 0) (option_map suc (place_in fs id)) ≡ Some i → i < suc (length fs)
     by true h q = let k : 0 ≡ i = cc in omega (arith, k)
     by false h q = later_in (length fs) i (place_in fs id) h q
+
+pub place_fits : (fs : List DefField) (id : ℤ) (o : Option ℕ) → o ≡ place_in fs id → IfSome o (λ i. i < length fs)
+place_fits fs id None e = tt
+place_fits fs id (Some i) e = place_inside fs id i (sym e)
 
 -- an id is that of the field at its place, which is the one that is found
 abbrev IsAt : List DefField → ℤ → ℕ → Type 0
@@ -138,6 +147,58 @@ place_at (scalar s) i f a e = absurd cc
 place_at (list_of t) i f a e = absurd cc
 place_at (set_of t) i f a e = absurd cc
 place_at (map_of k v) i f a e = absurd cc
+
+pub fields_placed : (t : TypeTree) → IsAccepted Any t → ArePlaced (fields_of t)
+fields_placed t a i f e = place_at t i f a e
+
+-- ---- fields from the first on that stood
+
+pub and_false : (b : Bool) → (b && false) ≡ false
+and_false true = refl
+and_false false = refl
+
+pub stood_none : (fs : List DefField) (ids : List ℤ) → HaveStood fs ids 0
+stood_none fs ids i f l e = absurd (omega (arith, l))
+
+pub stood_beside : (fs : List DefField) (ids : List ℤ) (id : ℤ) (n : ℕ) → HaveStood fs ids n → HaveStood fs (id ∷ ids) n
+stood_beside fs ids id n h i f l e = or_true (int_eq f.id id) (is_among f.id ids) (h i f l e)
+  where
+    or_true : (a b : Bool) → b ≡ true → (a || b) ≡ true
+    or_true true b e = refl
+    or_true false b e = e
+
+pub below_or : (a b : ℕ) → (a < b) ⊎ (b ≤ a)
+below_or a zero = inr (omega arith)
+below_or zero (suc b) = inl (omega arith)
+below_or (suc a) (suc b) = raise (below_or a b)
+  where
+    raise : (a < b) ⊎ (b ≤ a) → (suc a < suc b) ⊎ (suc b ≤ suc a)
+    raise (inl x) = inl (omega (arith, x))
+    raise (inr x) = inr (omega (arith, x))
+
+-- the next one stands too
+pub stood_more : (fs : List DefField) (ids : List ℤ) (id : ℤ) (n more : ℕ) → place_in fs id ≡ Some n → more ≤ n + 1 → HaveStood fs ids n → HaveStood fs (id ∷ ids) more
+stood_more fs ids id n more p le h i f l e = by (below_or i n)
+  where
+    at : i ≡ n → (int_eq f.id id || is_among f.id ids) ≡ true
+    at same =
+        let r = place_is fs id n p in
+        let g : r.0 ≡ f = same_get fs n r.0 f r.1 (sym (ap (slice_get fs) same) ∙ e) in
+        let q : int_eq f.id id ≡ true = sym (ap (λ (x : DefField). int_eq x.id id) g) ∙ r.2 in
+        ap (λ (b : Bool). b || is_among f.id ids) q
+
+    by : (i < n) ⊎ (n ≤ i) → (int_eq f.id id || is_among f.id ids) ≡ true
+    by (inl x) = stood_beside fs ids id n h i f x e
+    by (inr x) = at (omega (arith, x, l, le))
+
+pub stood_missing : (fs : List DefField) (ids : List ℤ) (n : ℕ) → HaveStood fs ids n → missing (drop n fs) ids ≡ missing fs ids
+stood_missing [] ids zero h = refl
+stood_missing [] ids (suc n) h = refl
+stood_missing (f ∷ fs) ids zero h = refl
+stood_missing (f ∷ fs) ids (suc n) h =
+    let among : is_among f.id ids ≡ true = h 0 f (omega arith) refl in
+    stood_missing fs ids n (λ i g l e. h (suc i) g (omega (arith, l)) e)
+    ∙ sym (ap (λ (b : Bool). cond b (MissingRequired f.id ∷ []) (missing fs ids)) (ap (λ (b : Bool). is_required f.need && not b) among ∙ and_false (is_required f.need)))
 
 -- ---- marks
 

@@ -11,7 +11,7 @@ use Rattle.idl_parse.specs.Refs.{element_of, key_of, value_of}
 use Rattle.type_kinds.specs.Accepted.{IsAccepted, AreAccepted, IsWritten, IsKeyType}
 use Rattle.type_kinds.specs.Laws.{Any}
 use Rattle.typed_reading.specs.Codes.{code}
-use Rattle.typed_reading.specs.Marks.{IsKeyKind}
+use Rattle.typed_reading.specs.Marks.{IsKeyKind, AreTyped}
 
 -- ---- kinds of types by their codes
 
@@ -193,3 +193,6 @@ field_at_accepted (scalar s) i f h e = absurd cc
 field_at_accepted (list_of t) i f h e = absurd cc
 field_at_accepted (set_of t) i f h e = absurd cc
 field_at_accepted (map_of x y) i f h e = absurd cc
+
+pub fields_typed : (t : TypeTree) → IsAccepted Any t → AreTyped (fields_of t)
+fields_typed t h i f e = (field_at_accepted t i f h e).0

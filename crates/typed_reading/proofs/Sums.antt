@@ -1,8 +1,9 @@
 -- Counts and their sums.
-use Rattle.std.proofs.Common.{◌≡◌, ℕ, ◌+◌, ◌≤◌, List, drop, length, Bool, cond, Some, ap, ◌∙◌, arith}
+use Rattle.std.proofs.Common.{◌≡◌, ℕ, zero, suc, ◌+◌, ◌≤◌, List, [], ◌∷◌, drop, length, Bool, true, cond, Some, refl, sym, ap, ◌∙◌, arith}
 use Rattle.std.specs.Prelude.{ℤ, slice_get}
 use Rattle.idl_profile.specs.Types.{DefField}
 use Rattle.typed_reading.specs.Faults.{is_among}
+use Rattle.typed_reading.specs.Marks.{HaveStood}
 use Rattle.typed_reading.proofs.FieldLaws.{drop_get, drop_all}
 use Rattle.typed_tree.specs.Sizes.{capped}
 use Rattle.typed_reading.specs.declared.counts.Checked.{Checked}
@@ -49,3 +50,13 @@ defaults_step fs i f ids b e h =
 
 pub defaults_done : (fs : List DefField) (i : ℕ) (ids : List ℤ) → length fs ≤ i → defaults_beside (drop i fs) ids ≡ nothing
 defaults_done fs i ids h = ap (λ (gs : List DefField). defaults_beside gs ids) (drop_all fs i h)
+
+-- fields that stood add nothing
+pub stood_defaults : (fs : List DefField) (ids : List ℤ) (n : ℕ) → HaveStood fs ids n → defaults_beside (drop n fs) ids ≡ defaults_beside fs ids
+stood_defaults [] ids zero h = refl
+stood_defaults [] ids (suc n) h = refl
+stood_defaults (f ∷ fs) ids zero h = refl
+stood_defaults (f ∷ fs) ids (suc n) h =
+    let among : is_among f.id ids ≡ true = h 0 f (omega arith) refl in
+    stood_defaults fs ids n (λ i g l e. h (suc i) g (omega (arith, l)) e) ∙ sym (first_nothing (defaults_beside fs ids))
+    ∙ sym (ap (λ (c : Bool). together (cond c nothing (default_count f)) (defaults_beside fs ids)) among)

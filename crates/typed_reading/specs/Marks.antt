@@ -1,11 +1,13 @@
 -- Marks of the fields that stood, by their places in the type, and kinds of keys.
-use Rattle.std.specs.Prelude.{◌≡◌, ℕ, suc, ◌<◌, ◌≤◌, List, [], ◌∷◌, length, Bool, false, ℤ, Option, Some, None}
-use Rattle.std.specs.Prelude.{slice_index_or, position}
+use Rattle.std.specs.Prelude.{◌≡◌, ℕ, suc, ◌<◌, ◌≤◌, List, [], ◌∷◌, length, Bool, true, false, ℤ, Option, Some, None}
+use Rattle.std.specs.Prelude.{slice_index_or, slice_get, position}
 use Rattle.frozen_model.specs.Values.{Value}
 use Rattle.compact_wire.specs.declared.kind.Kind.{Kind}
 use Rattle.compact_wire.specs.declared.kind.Kind.TheVariants as k
 use Rattle.compact_wire.specs.Node.{Node, list, set, map, structure}
 use Rattle.idl_profile.specs.Types.{DefField, TypeTree}
+use Rattle.type_kinds.specs.Accepted.{IsAccepted}
+use Rattle.type_kinds.specs.Laws.{Any}
 use Rattle.typed_reading.specs.declared.fault.NodeFault.{NodeFault}
 use Rattle.typed_reading.specs.declared.fault.NodeFault.TheVariants.{MissingRequired}
 use Rattle.typed_reading.specs.Codes.{code, code_of_node}
@@ -20,6 +22,18 @@ abbrev pub Marked : List DefField → List Bool → List ℤ → Type 0
 Marked fs marks ids =
     (id : ℤ) (i : ℕ) → place_in fs id ≡ Some i
     → (i < length marks) × (slice_index_or marks i false ≡ is_among id ids)
+
+-- each field stands at the place of its id
+abbrev pub ArePlaced : List DefField → Type 0
+ArePlaced fs = (i : ℕ) (f : DefField) → slice_get fs i ≡ Some f → place_in fs f.id ≡ Some i
+
+-- the type of each field is accepted
+abbrev pub AreTyped : List DefField → Type 0
+AreTyped fs = (i : ℕ) (f : DefField) → slice_get fs i ≡ Some f → IsAccepted Any f.type
+
+-- the ids of so many fields from the first on are among these
+abbrev pub HaveStood : List DefField → List ℤ → ℕ → Type 0
+HaveStood fs ids n = (i : ℕ) (f : DefField) → i < n → slice_get fs i ≡ Some f → is_among f.id ids ≡ true
 
 -- one missing field, or none
 abbrev pub listed : Option ℤ → List NodeFault

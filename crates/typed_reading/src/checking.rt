@@ -5,21 +5,21 @@ ghost use Rattle.exact_reading.specs.Reading.{Gives, seen, and_then, pure};
 ghost use Rattle.compact_wire.specs.Node.{list, set, structure};
 ghost use Rattle.compact_wire.specs.Codes.{code_of as wire_code};
 ghost use Rattle.compact_wire.specs.Reads.{value, items, sequence, mapping, pairs, all_fields, typed};
-ghost use Rattle.idl_profile.specs.Types.{kind_of, fields_of};
+ghost use Rattle.idl_profile.specs.Types.{kind_of};
 ghost use Rattle.idl_profile.specs.declared.kinds.TypeKind.{TypeKind};
-ghost use Rattle.idl_parse.specs.Refs.{type_of_ref};
+ghost use Rattle.idl_parse.specs.Refs.{type_of_ref, fields_of_refs};
 ghost use Rattle.type_kinds.specs.Accepted.{IsAccepted};
 ghost use Rattle.type_kinds.specs.Laws.{Any};
 ghost use Rattle.typed_reading.specs.Codes.{code as type_code};
 ghost use Rattle.typed_reading.specs.Counts.{counted, counted_items, counted_pairs, counted_field, IsCount};
 ghost use Rattle.typed_reading.specs.Progress.{after, after_items, after_map, after_field, inside as inside_of};
-ghost use Rattle.typed_reading.specs.Marks.{Marked, place_in, IsKeyKind};
+ghost use Rattle.typed_reading.specs.Marks.{Marked, AreTyped, place_in, IsKeyKind};
 
 use crate::counts::{
     Checked, with_defaults, with_holder, with_item, with_need, with_scalar, with_struct,
 };
 use crate::fault::NodeFault;
-use crate::fields::{add_marks, find_place, first_missing, place_behind, set_mark};
+use crate::fields::{add_marks, first_missing, place_behind, set_mark, stood_behind};
 use crate::keys::{check_key, check_set_items, note_repeat};
 use crate::progress::{Progress, note_fault, note_missing, pass_node, pass_to};
 use crate::texts::check_leaf;
@@ -30,7 +30,7 @@ use compact_wire::{
 };
 use exact_reading::{ReadError, Stop};
 use std::alloc::Global;
-use thrift_idl::TypeRef;
+use thrift_idl::{FieldRefs, TypeRef};
 use wire_scan::{skip_items, skip_pairs, skip_typed, skip_value};
 
 /// A value of a kind read as a type, told to the progress, and counted into the sums: the bytes after it. Where a fault
@@ -313,12 +313,12 @@ fn check_typed<'a>(
     }
 }
 
-/// The value of the field at a place of a struct's type, if it is known. Marks above the base are of those that stood.
+/// The value of the field at a place of a struct, if it is known. Marks above the base are of those that stood.
 #[cycle(check)]
 #[inline(always)]
 fn check_field<'a>(
     alloc: Global,
-    ty: TypeRef<'_>,
+    fields: FieldRefs<'_>,
     place: Option<u32>,
     levels: u32,
     field_type: FieldType,
@@ -329,23 +329,22 @@ fn check_field<'a>(
     base: usize,
 ) -> Result<&'a [u8], ReadError<Stop>>
     requires room { progress.old.next + length bytes.now + 1 < 2 ^ 64 }
-    requires accepted { IsAccepted Any (type_of_ref ty) }
-    requires is_struct { kind_of (type_of_ref ty) ≡ TypeKind.Struct }
-    requires place { IfSome place (λ p. p < length (fields_of (type_of_ref ty))) }
-    ensures reads { (id : ℤ) (ids : List ℤ) → place ≡ place_in (fields_of (type_of_ref ty.entry)) id
-        → Marked (fields_of (type_of_ref ty.entry)) (drop base marks.old.items) ids
+    requires typed { AreTyped (fields_of_refs fields) }
+    requires place { IfSome place (λ p. p < length (fields_of_refs fields)) }
+    ensures reads { (id : ℤ) (ids : List ℤ) → place ≡ place_in (fields_of_refs fields.entry) id
+        → Marked (fields_of_refs fields.entry) (drop base marks.old.items) ids
         → Gives (λ x. (progress.new, x.now)) result
-        (seen (λ w. (after_field (fields_of (type_of_ref ty.entry)) (progress.old, ids) id w).0)
+        (seen (λ w. (after_field (fields_of_refs fields.entry) (progress.old, ids) id w).0)
         (typed (value levels) field_type bytes.now)) }
-    ensures counts { (id : ℤ) (ids : List ℤ) → place ≡ place_in (fields_of (type_of_ref ty.entry)) id
+    ensures counts { (id : ℤ) (ids : List ℤ) → place ≡ place_in (fields_of_refs fields.entry) id
         → IfOk result (λ x. IsCount progress.new sums.new x.now
-        (seen (λ w. (counted_field (fields_of (type_of_ref ty.entry)) (sums.old, ids) id w).0)
+        (seen (λ w. (counted_field (fields_of_refs fields.entry) (sums.old, ids) id w).0)
         (typed (value levels) field_type bytes.now))) }
     ensures room { IfOk result (λ x.
         progress.new.next + length x.now ≤ progress.old.next + length bytes.now + 1) }
-    ensures marked { (id : ℤ) (ids : List ℤ) → place ≡ place_in (fields_of (type_of_ref ty.entry)) id
-        → Marked (fields_of (type_of_ref ty.entry)) (drop base marks.old.items) ids
-        → OnOk result (Marked (fields_of (type_of_ref ty.entry)) (drop base marks.new.items) (id ∷ ids)) }
+    ensures marked { (id : ℤ) (ids : List ℤ) → place ≡ place_in (fields_of_refs fields.entry) id
+        → Marked (fields_of_refs fields.entry) (drop base marks.old.items) ids
+        → OnOk result (Marked (fields_of_refs fields.entry) (drop base marks.new.items) (id ∷ ids)) }
     ensures below { OnOk result (take base marks.new.items ≡ take base marks.old.items) }
 {
     let Some(place) = place else {
@@ -358,7 +357,7 @@ fn check_field<'a>(
         note_fault(progress, NodeFault::RepeatedField, next);
         return Ok(rest);
     }
-    let field = ty.field_at(place);
+    let field = fields.at(place);
     *sums = with_need(*sums, field.need());
     check_typed(
         alloc,
@@ -397,26 +396,29 @@ pub fn check_struct<'a>(
     ensures marks { OnOk result (marks.new.items ≡ marks.old.items) }
 {
     let base = marks.len();
-    add_marks(marks, ty)?;
+    let fields = ty.fields();
+    add_marks(marks, fields)?;
     let node = progress.next;
     pass_node(progress);
     *sums = with_struct(*sums);
     let mut rest = bytes;
     let mut before = FieldBefore { id: 0 };
     let mut likely = 0;
+    let mut stood = 0;
     'fields: loop {
         let (start, behind) = read_field_start(levels, before, rest)?;
         let Some((id, field_type)) = start else {
-            let missing = first_missing(ty, marks.as_slice(), base);
-            *sums = with_defaults(ty, marks.as_slice(), base, *sums);
+            let missing = first_missing(fields, marks.as_slice(), base, stood);
+            *sums = with_defaults(fields, marks.as_slice(), base, stood, *sums);
             marks.truncate(base);
             note_missing(progress, node, missing);
             return Ok(behind);
         };
-        let place = find_place(ty, id, likely);
+        let place = fields.place_near(id, likely);
         likely = place_behind(place, likely);
+        stood = stood_behind(place, stood);
         let behind = check_field(
-            alloc, ty, place, levels, field_type, behind, progress, sums, marks, base,
+            alloc, fields, place, levels, field_type, behind, progress, sums, marks, base,
         )?;
         before = FieldBefore { id };
         rest = behind;

@@ -2,19 +2,16 @@
 
 ghost use Rattle.std.specs.Prelude.{◌≡◌, ℤ, List, drop};
 ghost use Rattle.compact_wire.specs.Node.{Node};
-ghost use Rattle.idl_profile.specs.Types.{TypeTree, kind_of, fields_of};
-ghost use Rattle.idl_profile.specs.declared.kinds.TypeKind.{TypeKind};
-ghost use Rattle.idl_parse.specs.Refs.{type_of_ref, field_of_ref};
+ghost use Rattle.idl_profile.specs.Types.{TypeTree};
+ghost use Rattle.idl_parse.specs.Refs.{field_of_ref, fields_of_refs};
 ghost use Rattle.key_order.specs.Keys.{value_of};
-ghost use Rattle.type_kinds.specs.Accepted.{IsAccepted};
-ghost use Rattle.type_kinds.specs.Laws.{Any};
 ghost use Rattle.typed_reading.specs.Counts.{count_of, grown, some_bytes as bytes_count, a_scalar, a_holder, an_item, a_struct, by_need as need_count, default_count as count_of_default, defaults_beside, total};
 ghost use Rattle.typed_reading.specs.Keys.{key_value};
-ghost use Rattle.typed_reading.specs.Marks.{Marked, IsLeafAs};
+ghost use Rattle.typed_reading.specs.Marks.{Marked, ArePlaced, HaveStood, IsLeafAs};
 
 use crate::fields::is_marked;
 use key_order::Key;
-use thrift_idl::{FieldRef, Need, TypeRef};
+use thrift_idl::{FieldRef, FieldRefs, Need};
 use typed_tree::{Room, default_cells, default_room};
 
 /// How many cells a value has, and the room that a tree of it takes. A number above 2^64 - 1 is told as that.
@@ -136,17 +133,24 @@ fn with_default(count: Checked, field: FieldRef<'_>) -> Checked
     )
 }
 
-/// With what the fields have that did not stand, by the marks above a base.
-pub fn with_defaults(ty: TypeRef<'_>, marks: &[bool], base: usize, count: Checked) -> Checked
-    requires kind { kind_of (type_of_ref ty) ≡ TypeKind.Struct }
-    requires accepted { IsAccepted Any (type_of_ref ty) }
-    ensures { (ids : List ℤ) → Marked (fields_of (type_of_ref ty.entry)) (drop base marks.now) ids
-        → result ≡ grown count (defaults_beside (fields_of (type_of_ref ty.entry)) ids) }
+/// With what the fields have that did not stand, by the marks above a base. The first so many fields are known to have
+/// stood.
+pub fn with_defaults(
+    fields: FieldRefs<'_>,
+    marks: &[bool],
+    base: usize,
+    from: u32,
+    count: Checked,
+) -> Checked
+    requires { ArePlaced (fields_of_refs fields) }
+    ensures { (ids : List ℤ) → Marked (fields_of_refs fields.entry) (drop base marks.now) ids
+        → HaveStood (fields_of_refs fields.entry) ids from
+        → result ≡ grown count (defaults_beside (fields_of_refs fields.entry) ids) }
 {
     let mut all = count;
-    for place in 0..ty.field_count() {
-        let field = ty.field_at(place);
+    for place in from..fields.count() {
         if !is_marked(marks, base, place) {
+            let field = fields.at(place);
             all = with_default(all, field);
         }
     }

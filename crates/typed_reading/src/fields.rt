@@ -1,37 +1,13 @@
 //! The fields of a struct's type, and marks of those that stood.
 
-ghost use Rattle.std.specs.Prelude.{◌≡◌, ◌+◌, ◌<◌, ◌≤◌, ℕ, ℤ, List, [], Some, length, IfSome, OnOk, OnErr, ◌&&◌, not, true, false, drop, take, slice_index_or, slice_set as set};
-ghost use Rattle.std.specs.Ordering.{int_eq};
-ghost use Rattle.idl_profile.specs.Types.{kind_of, fields_of};
-ghost use Rattle.idl_profile.specs.declared.kinds.TypeKind.{TypeKind};
-ghost use Rattle.idl_parse.specs.Refs.{type_of_ref, field_of_ref};
-ghost use Rattle.type_kinds.specs.Accepted.{IsAccepted};
-ghost use Rattle.type_kinds.specs.Laws.{Any};
+ghost use Rattle.std.specs.Prelude.{◌≡◌, ◌+◌, ℤ, List, [], ◌∷◌, length, OnOk, true, false, drop, take, slice_index_or, slice_set as set};
+ghost use Rattle.idl_profile.specs.Types.{DefField};
+ghost use Rattle.idl_parse.specs.Refs.{fields_of_refs};
 ghost use Rattle.typed_reading.specs.Faults.{missing, is_required as required};
-ghost use Rattle.typed_reading.specs.Marks.{place_in, Marked, listed};
+ghost use Rattle.typed_reading.specs.Marks.{place_in, Marked, ArePlaced, HaveStood, listed};
 
 use std::alloc::AllocError;
-use thrift_idl::{FieldRef, Need, TypeRef};
-
-#[inline]
-fn has_id(field: FieldRef<'_>, id: i16) -> bool
-    ensures { result ≡ int_eq (field_of_ref field.entry).id id }
-{
-    field.id() == id
-}
-
-/// The place of the field of an id. The likely place is tried first.
-#[inline(always)]
-pub fn find_place(ty: TypeRef<'_>, id: i16, likely: u32) -> Option<u32>
-    requires kind { kind_of (type_of_ref ty) ≡ TypeKind.Struct }
-    requires accepted { IsAccepted Any (type_of_ref ty) }
-    ensures { result ≡ place_in (fields_of (type_of_ref ty.entry)) id }
-{
-    if likely < ty.field_count() && has_id(ty.field_at(likely), id) {
-        return Some(likely);
-    }
-    ty.place_of(id)
-}
+use thrift_idl::{FieldRefs, Need};
 
 /// The likely place of the next field: behind this one, if it is known.
 #[inline]
@@ -42,14 +18,25 @@ pub fn place_behind(place: Option<u32>, likely: u32) -> u32 {
     }
 }
 
-/// Lays marks for the fields of a struct's type on those that there are, none of them set.
-#[inline]
-pub fn add_marks(marks: &mut Vec<bool>, ty: TypeRef<'_>) -> Result<(), AllocError>
-    requires { kind_of (type_of_ref ty) ≡ TypeKind.Struct }
-    ensures below { OnOk result (take (length marks.old.items) marks.new.items ≡ marks.old.items) }
-    ensures added { OnOk result (Marked (fields_of (type_of_ref ty.entry)) (drop (length marks.old.items) marks.new.items) []) }
+/// How many fields from the first on are known to have stood, behind a field of this place.
+#[inline(always)]
+pub fn stood_behind(place: Option<u32>, stood: u32) -> u32
+    ensures { (fs : List DefField) (ids : List ℤ) (id : ℤ) → place ≡ place_in fs id → HaveStood fs ids stood
+        → HaveStood fs (id ∷ ids) result }
 {
-    let count = ty.field_count() as usize;
+    match place {
+        Some(place) if place == stood => stood.saturating_add(1),
+        _ => stood,
+    }
+}
+
+/// Lays marks for the fields of a struct on those that there are, none of them set.
+#[inline]
+pub fn add_marks(marks: &mut Vec<bool>, fields: FieldRefs<'_>) -> Result<(), AllocError>
+    ensures below { OnOk result (take (length marks.old.items) marks.new.items ≡ marks.old.items) }
+    ensures added { OnOk result (Marked (fields_of_refs fields.entry) (drop (length marks.old.items) marks.new.items) []) }
+{
+    let count = fields.count() as usize;
     match marks.len().checked_add(count) {
         Some(len) => marks.resize(len, false),
         None => Err(AllocError),
@@ -92,24 +79,20 @@ fn is_required(need: Need) -> bool
     }
 }
 
-/// Whether the field at a place is required and did not stand.
-fn is_missing(field: FieldRef<'_>, marks: &[bool], base: usize, place: u32) -> bool
-    ensures { result ≡ (required (field_of_ref field.entry).need && not (slice_index_or (drop base marks.now) place false)) }
+/// The least id of a required field that did not stand, by the marks above a base. The first so many fields are known to
+/// have stood.
+pub fn first_missing(fields: FieldRefs<'_>, marks: &[bool], base: usize, from: u32) -> Option<i16>
+    requires { ArePlaced (fields_of_refs fields) }
+    ensures { (ids : List ℤ) → Marked (fields_of_refs fields.entry) (drop base marks.now) ids
+        → HaveStood (fields_of_refs fields.entry) ids from
+        → listed result ≡ missing (fields_of_refs fields.entry) ids }
 {
-    is_required(field.need()) && !is_marked(marks, base, place)
-}
-
-/// The least id of a required field that did not stand, by the marks above a base.
-pub fn first_missing(ty: TypeRef<'_>, marks: &[bool], base: usize) -> Option<i16>
-    requires kind { kind_of (type_of_ref ty) ≡ TypeKind.Struct }
-    requires accepted { IsAccepted Any (type_of_ref ty) }
-    ensures { (ids : List ℤ) → Marked (fields_of (type_of_ref ty.entry)) (drop base marks.now) ids
-        → listed result ≡ missing (fields_of (type_of_ref ty.entry)) ids }
-{
-    for place in 0..ty.field_count() {
-        let field = ty.field_at(place);
-        if is_missing(field, marks, base, place) {
-            return Some(field.id());
+    for place in from..fields.count() {
+        if !is_marked(marks, base, place) {
+            let field = fields.at(place);
+            if is_required(field.need()) {
+                return Some(field.id());
+            }
         }
     }
     None

@@ -14,7 +14,7 @@ mod whole;
 
 pub use counts::Checked;
 pub use fault::{Found, NodeFault, ValueFault};
-pub use fields::{add_marks, find_place, is_marked, place_behind, set_mark};
+pub use fields::{add_marks, is_marked, place_behind, set_mark};
 pub use keys::read_key;
 pub use laws::{least_fault_is_least, typed_is_a_value};
 pub use types::code;

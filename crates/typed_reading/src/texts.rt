@@ -21,15 +21,32 @@ use std::str;
 use thrift_idl::{TypeKind, TypeRef};
 use wire_scan::skip_scalar;
 
-/// Whether bytes are UTF-8.
+// Whether bytes are UTF-8, by decoding them.
 #[tactic(auto, using(crate::proofs::TextLaws::text_good, crate::proofs::TextLaws::text_bad))]
-pub fn is_text(bytes: &[u8]) -> bool
+#[inline(never)]
+fn is_decoded(bytes: &[u8]) -> bool
     ensures { result ≡ is_utf8 bytes.now }
 {
     match str::from_utf8(bytes) {
         Ok(_) => true,
         Err(_) => false,
     }
+}
+
+/// Whether bytes are UTF-8. Few bytes that are all ASCII are known to be without a call.
+#[inline(always)]
+pub fn is_text(bytes: &[u8]) -> bool
+    ensures { result ≡ is_utf8 bytes.now }
+{
+    if bytes.len() < 32 {
+        for byte in bytes {
+            if *byte >= 128 {
+                return is_decoded(bytes);
+            }
+        }
+        return true;
+    }
+    is_decoded(bytes)
 }
 
 #[inline]

@@ -1,5 +1,6 @@
 use Rattle.std.proofs.Common.{arith, rules, ap, sym, subst, refl, inl, inr, ◌∙◌, ◌≡◌, ◌+◌, ◌-◌, ℕ, List, [], ◌∷◌, ◌++◌, Result, Ok, Some, length, take, drop}
 use Rattle.std.proofs.lemmas.Int.{to_z-of_z}
+use Rattle.std.specs.Prelude.{slice_get}
 use mir.Val.{SFits}
 use mir.Syntax.{w16}
 use Rattle.exact_reading.specs.declared.stop.Stop.{Stop}
@@ -16,17 +17,17 @@ use Rattle.compact_wire.specs.Node.{Node, list, set}
 use Rattle.compact_wire.specs.Reads.{items, pairs, value, element, container, typed}
 use Rattle.compact_wire.proofs.ReadSteps.{AreBytes-from, value-zero, value-step, value-scalar}
 use Rattle.idl_profile.specs.declared.kinds.Need.{Need}
-use Rattle.idl_profile.specs.Types.{TypeTree, fields_of}
-use Rattle.idl_parse.specs.Refs.{type_of_ref, field_of_ref, element_of, key_of, value_of}
+use Rattle.idl_profile.specs.Types.{TypeTree, DefField}
+use Rattle.idl_parse.specs.Refs.{type_of_ref, field_of_ref, fields_of_refs, element_of, key_of, value_of}
 use Rattle.type_kinds.specs.Accepted.{IsAccepted}
 use Rattle.type_kinds.specs.Laws.{Any}
 use Rattle.typed_tree.specs.Trees.{trees}
-use Rattle.typed_reading.proofs.Parts.{row_kind, map_kind, struct_kind, leaf_kind, element_accepted, map_accepted, field_at_accepted}
+use Rattle.typed_reading.proofs.Parts.{row_kind, map_kind, leaf_kind, element_accepted, map_accepted, field_at_accepted}
 use Rattle.compact_codec.specs.Building.{IsClean, with_values, with_pairs}
 use Rattle.compact_codec.proofs.Clean.{on_all}
 use Rattle.compact_codec.proofs.Rows.{header_not, count_not, list_clean, list_built, items_there, set_clean, set_differs, set_built, items_as, clean_as, pairs_as, pairs_clean_as, size_not, kinds_not, empty_built, map_clean, pairs_there, map_differs, map_built, key_accepted}
 use Rattle.compact_codec.proofs.Loops.{item_clean, item_on, items_end, pair_key_clean, pair_value_clean, pair_on, pairs_end}
-use Rattle.compact_codec.proofs.Structs.{left_begin, left_not, left_clean, left_on, left_new, put_on, known_clean, struct_built, holds_none, unknown_is, field_put, field_not, field_there}
+use Rattle.compact_codec.proofs.Structs.{fields_begin, left_not, left_clean, left_on, left_new, put_on, filled_on, known_clean, struct_built, holds_none, unknown_is, field_put, field_not, field_there}
 use Rattle.compact_codec.proofs.building.+build.Goals as goal
 
 pub build_items-build_value-requires : goal.build_items-build_value-requires
@@ -271,106 +272,103 @@ build_value-build_struct-requires t c = (
 pub build_value-returns-in-Struct-clause-built : goal.build_value-returns-in-Struct-clause-built
 build_value-returns-in-Struct-clause-built t c = rw (value-step c.args.levels c.args.kind (omega arith) ∙ ap (container (c.args.levels - 1) (value (c.args.levels - 1))) c.in-Struct.is) c.build_struct.ensures.built
 
-pub build_struct-add_marks-requires : goal.build_struct-add_marks-requires
-build_struct-add_marks-requires t c = struct_kind (type_of_ref c.args.ty) (left_begin (type_of_ref c.args.ty) c.args.levels c.args.bytes.now (AreBytes-from c.args.bytes.now (λ i. omega (arith, c.type_inv.bytes i))) c.requires.clean).0
-
-pub build_struct-fields-init : goal.build_struct-fields-init
-build_struct-fields-init t c =
+pub build_struct-each-init : goal.build_struct-each-init
+build_struct-each-init t c =
     let a : c.len-first_id.result ≡ length c.args.ids.now.items = omega (arith, c.len-first_id.ensures) in
     let b : c.len-first_mark.result ≡ length c.args.marks.now.items = omega (arith, c.len-first_mark.ensures) in
     let ms = c.add_marks.new.marks.items in
-    let added = subst (λ (n : ℕ). Marked (fields_of (type_of_ref c.args.ty)) (drop n ms) []) (sym b) c.in_ok-add_marks.ensures.added in
-    (([], (left_begin (type_of_ref c.args.ty) c.args.levels c.args.bytes.now (AreBytes-from c.args.bytes.now (λ i. omega (arith, c.type_inv.bytes i))) c.requires.clean).1, holds_none (fields_of (type_of_ref c.args.ty)) (trees c.args.builder.now) c.args.ids.now.items c.len-first_id.result (drop c.len-first_mark.result ms) a added), omega (arith, a), ap (λ (n : ℕ). take n c.args.ids.now.items) a ∙ take-length c.args.ids.now.items, refl)
+    let added = subst (λ (n : ℕ). Marked (fields_of_refs c.fields-fields.result) (drop n ms) []) (sym b) c.in_ok-add_marks.ensures.added in
+    (([], (fields_begin (type_of_ref c.args.ty) (fields_of_refs c.fields-fields.result) c.fields-fields.ensures c.args.levels c.args.bytes.now (AreBytes-from c.args.bytes.now (λ i. omega (arith, c.type_inv.bytes i))) c.requires.clean).1, holds_none (fields_of_refs c.fields-fields.result) (trees c.args.builder.now) c.args.ids.now.items c.len-first_id.result (drop c.len-first_mark.result ms) a added), omega (arith, a), ap (λ (n : ℕ). take n c.args.ids.now.items) a ∙ take-length c.args.ids.now.items, refl, λ i lt. absurd (omega (arith, lt)))
 
 pub build_struct-unreachable-requires : goal.build_struct-unreachable-requires
-build_struct-unreachable-requires t c = left_not c.args.levels (fields_of (type_of_ref c.args.ty)) c.args.bytes.now c.fields.invariant.0.0 c.fields.before.id c.fields.rest.now c.in_default.field-0 c.fields.invariant.0.1 c.in_default.ensures.reads
+build_struct-unreachable-requires t c = left_not c.args.levels (fields_of_refs c.fields-fields.result) c.args.bytes.now c.each.invariant.0.0 c.each.before.id c.each.rest.now c.in_default.field-0 c.each.invariant.0.1 c.in_default.ensures.reads
 
 pub build_struct-finish_struct-requires : goal.build_struct-finish_struct-requires
 build_struct-finish_struct-requires t c = record {
-  is_struct = struct_kind (type_of_ref c.args.ty) (left_begin (type_of_ref c.args.ty) c.args.levels c.args.bytes.now (AreBytes-from c.args.bytes.now (λ i. omega (arith, c.type_inv.bytes i))) c.requires.clean).0;
-  accepted = c.requires.accepted;
-  held = (trees c.args.builder.now, c.fields.invariant.0.0, c.fields.invariant.0.2);
-  first_id = c.fields.invariant.1;
+  accepted = record { ty = c.args.ty; are = c.fields-fields.ensures; accepted = c.requires.accepted };
+  held = (trees c.args.builder.now, c.each.invariant.0.0, c.each.invariant.0.2);
+  first_id = c.each.invariant.1;
+  filled = c.each.invariant.4;
 }
 
 pub build_struct-returns-in_default-start-clause-built : goal.build_struct-returns-in_default-start-clause-built
 build_struct-returns-in_default-start-clause-built t c =
-    struct_built (type_of_ref c.args.ty) c.args.levels c.args.bytes.now c.fields.invariant.0.0 c.fields.before.id c.fields.rest.now c.in-Ok.behind.now c.fields.invariant.0.1
+    struct_built (type_of_ref c.args.ty) (fields_of_refs c.fields-fields.result) c.fields-fields.ensures c.args.levels c.args.bytes.now c.each.invariant.0.0 c.each.before.id c.each.rest.now c.in-Ok.behind.now c.each.invariant.0.1
     (c.in-Ok.ensures.reads ∙ ap (λ o. Ok (o, c.in-Ok.behind.now)) c.in_default-start.is) (trees c.args.builder.now) (trees c.finish_struct.new.builder)
-    (c.in_ok-finish_struct.ensures.trees (trees c.args.builder.now) c.fields.invariant.0.0 c.fields.invariant.0.2)
+    (c.in_ok-finish_struct.ensures.trees (trees c.args.builder.now) c.each.invariant.0.0 c.each.invariant.0.2)
 
 pub build_struct-build_field-requires : goal.build_struct-build_field-requires
 build_struct-build_field-requires t c =
     let f : SFits w16 c.in-Some.id = search rules in
-    let place = simp to_z-of_z at c.find_place-place.ensures in (
+    let place = simp to_z-of_z at c.place_near-place.ensures in (
       omega (arith, c.decreases),
-      (c.requires.accepted, (struct_kind (type_of_ref c.args.ty) (left_begin (type_of_ref c.args.ty) c.args.levels c.args.bytes.now (AreBytes-from c.args.bytes.now (λ i. omega (arith, c.type_inv.bytes i))) c.requires.clean).0, (simp to_z-of_z place, simp to_z-of_z (left_clean c.args.levels (fields_of (type_of_ref c.args.ty)) c.args.bytes.now c.fields.invariant.0.0 c.fields.before.id c.fields.rest.now c.in-Some.id c.in-Some.field_type c.in-Ok.behind.now c.fields.invariant.0.1 (c.in-Ok.ensures.reads ∙ ap (λ o. Ok (o, c.in-Ok.behind.now)) c.in-Some.is))))),
+      (record { ty = c.args.ty; are = c.fields-fields.ensures; accepted = c.requires.accepted }, (simp to_z-of_z place, simp to_z-of_z (left_clean c.args.levels (fields_of_refs c.fields-fields.result) c.args.bytes.now c.each.invariant.0.0 c.each.before.id c.each.rest.now c.in-Some.id c.in-Some.field_type c.in-Ok.behind.now c.each.invariant.0.1 (c.in-Ok.ensures.reads ∙ ap (λ o. Ok (o, c.in-Ok.behind.now)) c.in-Some.is)))),
     )
 
-pub build_struct-fields-smaller : goal.build_struct-fields-smaller
-build_struct-fields-smaller t c =
+pub build_struct-each-smaller : goal.build_struct-each-smaller
+build_struct-each-smaller t c =
     let f : SFits w16 c.in-Some.id = search rules in
     let put = c.in_ok-rest.ensures in
-    (left_on c.args.levels (fields_of (type_of_ref c.args.ty)) c.args.bytes.now c.fields.invariant.0.0 c.fields.before.id c.fields.rest.now c.in-Some.id c.in-Some.field_type c.in-Ok.behind.now c.fields.invariant.0.1 (c.in-Ok.ensures.reads ∙ ap (λ o. Ok (o, c.in-Ok.behind.now)) c.in-Some.is) put.0 c.in_ok-rest.rest.now put.1).0
+    (left_on c.args.levels (fields_of_refs c.fields-fields.result) c.args.bytes.now c.each.invariant.0.0 c.each.before.id c.each.rest.now c.in-Some.id c.in-Some.field_type c.in-Ok.behind.now c.each.invariant.0.1 (c.in-Ok.ensures.reads ∙ ap (λ o. Ok (o, c.in-Ok.behind.now)) c.in-Some.is) put.0 c.in_ok-rest.rest.now put.1).0
 
-pub build_struct-fields-preserved : goal.build_struct-fields-preserved
-build_struct-fields-preserved t c =
+pub build_struct-each-preserved : goal.build_struct-each-preserved
+build_struct-each-preserved t c =
     let f : SFits w16 c.in-Some.id = search rules in
-    let place = simp to_z-of_z at c.find_place-place.ensures in
+    let place = simp to_z-of_z at c.place_near-place.ensures in
     let put = simp to_z-of_z at c.in_ok-rest.ensures in
-    let next = (left_on c.args.levels (fields_of (type_of_ref c.args.ty)) c.args.bytes.now c.fields.invariant.0.0 c.fields.before.id c.fields.rest.now c.in-Some.id c.in-Some.field_type c.in-Ok.behind.now c.fields.invariant.0.1 (c.in-Ok.ensures.reads ∙ ap (λ o. Ok (o, c.in-Ok.behind.now)) c.in-Some.is) put.0 c.in_ok-rest.rest.now put.1).1 in
-    let new = left_new c.args.levels (fields_of (type_of_ref c.args.ty)) c.args.bytes.now c.fields.invariant.0.0 c.fields.before.id c.fields.rest.now c.in-Some.id c.in-Some.field_type c.in-Ok.behind.now c.fields.invariant.0.1 (c.in-Ok.ensures.reads ∙ ap (λ o. Ok (o, c.in-Ok.behind.now)) c.in-Some.is) in
-    let behind = put_on (fields_of (type_of_ref c.args.ty)) (trees c.args.builder.now) c.fields.invariant.0.0 c.in-Some.id put.0 c.len-first_id.result c.len-first_mark.result (trees c.fields.builder) (trees c.build_field.new.builder) c.fields.ids.items c.build_field.new.ids.items c.fields.marks.items c.build_field.new.marks.items
-    c.fields.invariant.0.2 c.fields.invariant.1 c.find_place-place.result place new put.2 in
-    ((c.fields.invariant.0.0 ++ reading c.in-Some.id (type_in (fields_of (type_of_ref c.args.ty)) c.in-Some.id) (meaning put.0) [], simp to_z-of_z next, behind.holds), behind.long, behind.ids_below ∙ c.fields.invariant.2, behind.marks_below ∙ c.fields.invariant.3)
+    let next = (left_on c.args.levels (fields_of_refs c.fields-fields.result) c.args.bytes.now c.each.invariant.0.0 c.each.before.id c.each.rest.now c.in-Some.id c.in-Some.field_type c.in-Ok.behind.now c.each.invariant.0.1 (c.in-Ok.ensures.reads ∙ ap (λ o. Ok (o, c.in-Ok.behind.now)) c.in-Some.is) put.0 c.in_ok-rest.rest.now put.1).1 in
+    let new = left_new c.args.levels (fields_of_refs c.fields-fields.result) c.args.bytes.now c.each.invariant.0.0 c.each.before.id c.each.rest.now c.in-Some.id c.in-Some.field_type c.in-Ok.behind.now c.each.invariant.0.1 (c.in-Ok.ensures.reads ∙ ap (λ o. Ok (o, c.in-Ok.behind.now)) c.in-Some.is) in
+    let behind = put_on (fields_of_refs c.fields-fields.result) (trees c.args.builder.now) c.each.invariant.0.0 c.in-Some.id put.0 c.len-first_id.result c.len-first_mark.result (trees c.each.builder) (trees c.build_field.new.builder) c.each.ids.items c.build_field.new.ids.items c.each.marks.items c.build_field.new.marks.items
+    c.each.invariant.0.2 c.each.invariant.1 c.place_near-place.result place new put.2 in
+    let filled = filled_on (fields_of_refs c.fields-fields.result) (trees c.args.builder.now) c.each.invariant.0.0 c.in-Some.id put.0 c.len-first_id.result c.len-first_mark.result (trees c.each.builder) (trees c.build_field.new.builder) c.each.ids.items c.build_field.new.ids.items c.each.marks.items c.build_field.new.marks.items
+    c.each.invariant.0.2 c.each.invariant.1 c.place_near-place.result place put.2 c.each.filled c.filled_behind-filled.result c.filled_behind-filled.ensures c.each.invariant.4 in
+    ((c.each.invariant.0.0 ++ reading c.in-Some.id (type_in (fields_of_refs c.fields-fields.result) c.in-Some.id) (meaning put.0) [], simp to_z-of_z next, behind.holds), behind.long, behind.ids_below ∙ c.each.invariant.2, behind.marks_below ∙ c.each.invariant.3, filled)
 
 pub build_field-returns-in_default : goal.build_field-returns-in_default
 build_field-returns-in_default t c =
     let x = seen_ok (λ (w : Node). 0 + size w) (typed (value c.args.levels) c.args.field_type c.args.bytes.now) _ c.in-Ok.rest.now c.in-Ok.ensures.reads in
-    (x.0, x.1, unknown_is (fields_of (type_of_ref c.args.ty)) c.args.place c.args.id c.args.base x.0 (trees c.args.builder.now) c.args.ids.now.items c.args.marks.now.items c.in_default.is)
+    (x.0, x.1, unknown_is (fields_of_refs c.args.fields) c.args.place c.args.id c.args.base x.0 (trees c.args.builder.now) c.args.ids.now.items c.args.marks.now.items c.in_default.is)
 
 pub build_field-build_typed-requires : goal.build_field-build_typed-requires
 build_field-build_typed-requires t c =
-    let f = field_of_ref c.field_at-field.result in
+    let a = c.requires.accepted in
+    let f = field_of_ref c.at-field.result in
     let r = typed (value c.args.levels) c.args.field_type c.args.bytes.now in (
       omega (arith, c.decreases),
       (
-        subst (IsAccepted Any) (sym c.ty.ensures) (field_at_accepted (type_of_ref c.args.ty) c.in-Some.place f c.requires.accepted c.field_at-field.ensures).0,
-        subst (λ (u : TypeTree). IsClean u r) (sym c.ty.ensures) (known_clean (fields_of (type_of_ref c.args.ty)) c.args.id c.in-Some.place f r (sym c.requires.place ∙ c.in-Some.is) c.field_at-field.ensures c.requires.clean),
+        subst (IsAccepted Any) (sym c.ty.ensures) (field_at_accepted (type_of_ref a.ty) c.in-Some.place f a.accepted (ap (λ (gs : List DefField). slice_get gs c.in-Some.place) (sym a.are) ∙ c.at-field.ensures)).0,
+        subst (λ (u : TypeTree). IsClean u r) (sym c.ty.ensures) (known_clean (fields_of_refs c.args.fields) c.args.id c.in-Some.place f r (sym c.requires.place ∙ c.in-Some.is) c.at-field.ensures c.requires.clean),
       ),
     )
 
 pub build_field-returns : goal.build_field-returns
 build_field-returns t c =
-    let f = field_of_ref c.field_at-field.result in
+    let f = field_of_ref c.at-field.result in
     let r = typed (value c.args.levels) c.args.field_type c.args.bytes.now in
     let fit : SFits w16 c.args.id = search rules in
     let pushed = simp to_z-of_z at c.in_ok-push.ensures.items in
     let wrapped : (zs : List Value) (v : Value) → trees c.build_typed.new.builder ≡ zs ++ v ∷ [] → trees c.wrap.new.builder ≡ zs ++ given f.need (Some v) Absent ∷ [] =
     λ zs v e. c.in_ok-wrap.ensures zs v e ∙ ap (λ (n : Need). zs ++ given n (Some v) Absent ∷ []) c.need.ensures in
-    field_put (fields_of (type_of_ref c.args.ty)) c.args.place c.in-Some.place c.args.id c.args.base (type_of_ref c.ty.result) f r c.in_ok-rest.rest.now (trees c.args.builder.now) (trees c.build_typed.new.builder) (trees c.wrap.new.builder)
-    c.args.ids.now.items c.build_typed.new.ids.items c.args.marks.now.items c.build_typed.new.marks.items c.in-Some.is c.field_at-field.ensures c.ty.ensures c.in_ok-rest.ensures.built wrapped
+    field_put (fields_of_refs c.args.fields) c.args.place c.in-Some.place c.args.id c.args.base (type_of_ref c.ty.result) f r c.in_ok-rest.rest.now (trees c.args.builder.now) (trees c.build_typed.new.builder) (trees c.wrap.new.builder)
+    c.args.ids.now.items c.build_typed.new.ids.items c.args.marks.now.items c.build_typed.new.marks.items c.in-Some.is c.at-field.ensures c.ty.ensures c.in_ok-rest.ensures.built wrapped
     (c.in_ok-rest.ensures.ids ∙ pushed) (c.in_ok-rest.ensures.marks ∙ c.set_mark.ensures.new)
 
-pub build_struct-find_place-place-requires : goal.build_struct-find_place-place-requires
-build_struct-find_place-place-requires t c = record { kind = struct_kind (type_of_ref c.args.ty) (left_begin (type_of_ref c.args.ty) c.args.levels c.args.bytes.now (AreBytes-from c.args.bytes.now (λ i. omega (arith, c.type_inv.bytes i))) c.requires.clean).0; accepted = c.requires.accepted }
-
 pub build_struct-returns-in_default-start-clause-ids : goal.build_struct-returns-in_default-start-clause-ids
-build_struct-returns-in_default-start-clause-ids t c = c.in_ok-finish_struct.ensures.ids ∙ c.fields.invariant.2
+build_struct-returns-in_default-start-clause-ids t c = c.in_ok-finish_struct.ensures.ids ∙ c.each.invariant.2
 
 pub build_struct-returns-in_default-start-clause-marks : goal.build_struct-returns-in_default-start-clause-marks
 build_struct-returns-in_default-start-clause-marks t c =
     let b : c.len-first_mark.result ≡ length c.args.marks.now.items = omega (arith, c.len-first_mark.ensures) in
-    c.in_ok-finish_struct.ensures.marks ∙ c.fields.invariant.3 ∙ ap (λ (n : ℕ). take n c.add_marks.new.marks.items) b ∙ c.in_ok-add_marks.ensures.below
-
-pub build_field-field_at-field-requires : goal.build_field-field_at-field-requires
-build_field-field_at-field-requires t c = record { kind = c.requires.is_struct; place = place_inside (fields_of (type_of_ref c.args.ty)) c.args.id c.in-Some.place (sym c.requires.place ∙ c.in-Some.is) }
+    c.in_ok-finish_struct.ensures.marks ∙ c.each.invariant.3 ∙ ap (λ (n : ℕ). take n c.add_marks.new.marks.items) b ∙ c.in_ok-add_marks.ensures.below
 
 pub build_field-unreachable-requires : goal.build_field-unreachable-requires
 build_field-unreachable-requires t c =
     let r = typed (value c.args.levels) c.args.field_type c.args.bytes.now in
-    field_not (fields_of (type_of_ref c.args.ty)) c.args.id r c.in_default-skip_typed.field-0 c.requires.clean (seen_err (λ (w : Node). 0 + size w) r c.in_default-skip_typed.field-0 c.in_default-skip_typed.ensures.reads)
+    field_not (fields_of_refs c.args.fields) c.args.id r c.in_default-skip_typed.field-0 c.requires.clean (seen_err (λ (w : Node). 0 + size w) r c.in_default-skip_typed.field-0 c.in_default-skip_typed.ensures.reads)
 
 pub build_field-wrap-requires : goal.build_field-wrap-requires
 build_field-wrap-requires t c =
     field_there (type_of_ref c.ty.result) (typed (value c.args.levels) c.args.field_type c.args.bytes.now) c.in_ok-rest.rest.now (trees c.args.builder.now) (trees c.build_typed.new.builder) c.in_ok-rest.ensures.built
+
+pub build_field-at-field-requires : goal.build_field-at-field-requires
+build_field-at-field-requires t c = place_inside (fields_of_refs c.args.fields) c.args.id c.in-Some.place (sym c.requires.place ∙ c.in-Some.is)

@@ -1,12 +1,11 @@
 use Rattle.std.proofs.Common.{◌≡◌, ◌+◌, ◌-◌, ◌*◌, ◌≤◌, List, length, take, drop}
 use Rattle.std.specs.Prelude.{ℤ}
 use Rattle.frozen_model.specs.Values.{Value}
-use Rattle.idl_profile.specs.Types.{fields_of}
 use Rattle.compact_wire.specs.Reads.{items, pairs, value}
-use Rattle.idl_parse.specs.Refs.{type_of_ref}
+use Rattle.idl_parse.specs.Refs.{type_of_ref, fields_of_refs}
 use Rattle.exact_reading.specs.Reading.{seen}
 use Rattle.typed_tree.specs.Trees.{trees}
-use Rattle.compact_codec.specs.Building.{AreClean, ArePairsClean, with_values, with_pairs, Holds}
+use Rattle.compact_codec.specs.Building.{AreClean, ArePairsClean, with_values, with_pairs, Holds, AreSet}
 use Rattle.compact_codec.proofs.Structs.{Left}
 use Rattle.compact_codec.proofs.building.+build.Given as goal
 
@@ -51,12 +50,13 @@ decreases-build_field l = 5 * l.levels + 2
 abbrev pub decreases-build_struct : goal.decreases-build_struct
 decreases-build_struct l = 5 * l.levels + 3
 
-abbrev pub decreases-build_struct-fields : goal.decreases-build_struct-fields
-decreases-build_struct-fields l = length l.rest
+abbrev pub decreases-build_struct-each : goal.decreases-build_struct-each
+decreases-build_struct-each l = length l.rest
 
-abbrev pub invariant-build_struct-fields : goal.invariant-build_struct-fields
-invariant-build_struct-fields l =
-    ((rs : List (ℤ × Value)) × Left l.levels (fields_of (type_of_ref l.ty)) l.bytes rs l.before.id l.rest
-    × Holds (fields_of (type_of_ref l.ty)) (trees l.initial.builder) rs (trees l.builder) (drop l.first_id l.ids.items) (drop l.first_mark l.marks.items))
+abbrev pub invariant-build_struct-each : goal.invariant-build_struct-each
+invariant-build_struct-each l =
+    ((rs : List (ℤ × Value)) × Left l.levels (fields_of_refs l.fields) l.bytes rs l.before.id l.rest
+    × Holds (fields_of_refs l.fields) (trees l.initial.builder) rs (trees l.builder) (drop l.first_id l.ids.items) (drop l.first_mark l.marks.items))
     × (l.first_id ≤ length l.ids.items)
     × (take l.first_id l.ids.items ≡ l.initial.ids.items) × (take l.first_mark l.marks.items ≡ take l.first_mark l.initial.marks.items)
+    × AreSet l.filled (drop l.first_mark l.marks.items)

@@ -14,8 +14,8 @@ use Rattle.exact_reading.specs.Reading.{Gives, seen}
 use Rattle.compact_wire.specs.Node.{Nodes, list}
 use Rattle.compact_wire.specs.Reads.{items, pairs, value, all_fields, typed, container}
 use Rattle.compact_wire.proofs.ReadSteps.{AreBytes-from, value-zero, value-step, value-scalar}
-use Rattle.idl_profile.specs.Types.{TypeTree, fields_of}
-use Rattle.idl_parse.specs.Refs.{type_of_ref, field_of_ref, element_of, key_of, value_of}
+use Rattle.idl_profile.specs.Types.{TypeTree, DefField}
+use Rattle.idl_parse.specs.Refs.{type_of_ref, field_of_ref, fields_of_refs, element_of, key_of, value_of}
 use Rattle.key_order.specs.Entries.{placed}
 use Rattle.key_order.specs.Keys.{value_of as value_of_key}
 use Rattle.type_kinds.specs.Accepted.{IsAccepted}
@@ -23,13 +23,13 @@ use Rattle.type_kinds.specs.Laws.{Any}
 use Rattle.wire_scan.proofs.Seen.{Reading, items_go_on, items_done, pairs_go_on, pairs_done, key_end, fields_begin, start_end, fields_done, fields_go_on}
 use Rattle.typed_reading.specs.declared.counts.Checked.{Checked}
 use Rattle.typed_reading.specs.declared.fault.NodeFault.TheVariants.{RepeatedField, WrongType}
-use Rattle.typed_reading.specs.Counts.{grown, a_holder, by_need, counted, counted_items, counted_item, counted_pairs, counted_field, counted_fields, IsCount}
+use Rattle.typed_reading.specs.Counts.{grown, a_holder, a_struct, defaults_beside, by_need, counted, counted_items, counted_item, counted_pairs, counted_field, counted_fields, IsCount}
 use Rattle.typed_reading.proofs.CountSteps.{list_holds, none_counted, one_counted, no_pair_counted, pair_counted, no_field_counted, field_counted, flag_counted, row_counted, empty_map_counted, map_counted, key_item, unknown_counted, known_counted, field_goes_on, struct_counted, none_left, noted, clean_value, clean_key, clean_field}
 use Rattle.typed_reading.specs.Codes.{code}
-use Rattle.typed_reading.specs.Faults.{lesser, least, all_here}
+use Rattle.typed_reading.specs.Faults.{lesser, least, all_here, missing}
 use Rattle.typed_reading.specs.Progress.{after, after_items, after_map, after_key, after_value, after_pairs, after_field, after_fields, inside}
-use Rattle.typed_reading.specs.Marks.{Marked}
-use Rattle.typed_reading.proofs.FieldLaws.{marked_more, marked_unknown, place_is, place_find, place_found}
+use Rattle.typed_reading.specs.Marks.{Marked, ArePlaced, AreTyped}
+use Rattle.typed_reading.proofs.FieldLaws.{marked_more, marked_unknown, place_is, place_find, place_found, place_fits, fields_placed, stood_none}
 use Rattle.typed_reading.proofs.Steps.{progress, no_more, one_more, no_more_pairs, one_more_pair, no_more_fields, one_more_field, codes_same}
 use Rattle.typed_reading.proofs.Leaves.{wrong_value}
 use Rattle.typed_reading.proofs.Rows.{row_header_err, row_count_err, list_fine, row_wrong, row_wrong_err, list_row}
@@ -37,7 +37,7 @@ use Rattle.typed_reading.proofs.Maps.{map_first, map_none, map_header_err, map_w
 use Rattle.typed_reading.proofs.Structs.{field_ok, unknown_ok, repeated_ok, known_is, struct_err, struct_ok}
 use Rattle.typed_reading.proofs.Tables.{key_ok, key_err, value_ok, goes_on, on_ok, map_done, map_err}
 use Rattle.typed_reading.proofs.Keyed.{climbs_one, placed_push}
-use Rattle.typed_reading.proofs.Parts.{struct_code, leaf_kind, key_is_leaf, key_kind, element_accepted, map_accepted, field_at_accepted}
+use Rattle.typed_reading.proofs.Parts.{struct_code, leaf_kind, key_is_leaf, key_kind, element_accepted, map_accepted, fields_typed}
 use Rattle.typed_reading.proofs.Fails.{items_fail, pair_fails, field_fails}
 use Rattle.typed_reading.proofs.checking.+check.Goals as goal
 
@@ -157,16 +157,16 @@ check_value-returns-in-Map-clause-reads t c =
 
 pub check_field-returns-in_default-clause-reads : goal.check_field-returns-in_default-clause-reads
 check_field-returns-in_default-clause-reads t c id ids p m =
-    let fs = fields_of (type_of_ref c.args.ty) in
+    let fs = fields_of_refs c.args.fields in
     rw c.pass_to.ensures (unknown_ok fs c.args.progress.now ids id (typed (value c.args.levels) c.args.field_type c.args.bytes.now) c.in_ok-next.next c.in_ok-next.rest.now (place_found fs id (sym p ∙ c.in_default.is)) c.in_ok-next.ensures.reads)
 
 pub check_field-returns-in_default-clause-marked : goal.check_field-returns-in_default-clause-marked
 check_field-returns-in_default-clause-marked t c id ids p m =
-    marked_unknown (fields_of (type_of_ref c.args.ty)) (drop c.args.base c.args.marks.now.items) ids id m (sym p ∙ c.in_default.is)
+    marked_unknown (fields_of_refs c.args.fields) (drop c.args.base c.args.marks.now.items) ids id m (sym p ∙ c.in_default.is)
 
 pub check_field-returns-then-set_mark-clause-reads : goal.check_field-returns-then-set_mark-clause-reads
 check_field-returns-then-set_mark-clause-reads t c id ids p m =
-    let fs = fields_of (type_of_ref c.args.ty) in
+    let fs = fields_of_refs c.args.fields in
     let e = sym p ∙ c.in-Some.is in
     let at = place_is fs id c.in-Some.place e in
     let again = sym (m id c.in-Some.place e).1 ∙ sym c.set_mark.ensures.was ∙ c.if-set_mark.true in
@@ -174,7 +174,7 @@ check_field-returns-then-set_mark-clause-reads t c id ids p m =
 
 pub check_field-returns-then-set_mark-clause-marked : goal.check_field-returns-then-set_mark-clause-marked
 check_field-returns-then-set_mark-clause-marked t c id ids p m =
-    let fs = fields_of (type_of_ref c.args.ty) in
+    let fs = fields_of_refs c.args.fields in
     let marks = c.args.marks.now.items in
     subst (λ (ms : List Bool). Marked fs ms (id ∷ ids)) (sym (ap (drop c.args.base) c.set_mark.ensures.new ∙ drop-set-add c.args.base marks c.in-Some.place true))
     (marked_more fs (drop c.args.base marks) ids id c.in-Some.place m (sym p ∙ c.in-Some.is))
@@ -182,22 +182,22 @@ check_field-returns-then-set_mark-clause-marked t c id ids p m =
 pub check_field-check_typed-requires : goal.check_field-check_typed-requires
 check_field-check_typed-requires t c = (
   omega (arith, c.decreases),
-  (c.requires.room, subst (IsAccepted Any) (sym c.ty.ensures) (field_at_accepted (type_of_ref c.args.ty) c.in-Some.place (field_of_ref c.field_at-field.result) c.requires.accepted c.field_at-field.ensures).0),
+  (c.requires.room, subst (IsAccepted Any) (sym c.ty.ensures) (c.requires.typed c.in-Some.place (field_of_ref c.at-field.result) c.at-field.ensures)),
 )
 
 pub check_field-returns-clause-reads : goal.check_field-returns-clause-reads
 check_field-returns-clause-reads t c id ids p m =
-    let fs = fields_of (type_of_ref c.args.ty) in
-    let f = field_of_ref c.field_at-field.result in
+    let fs = fields_of_refs c.args.fields in
+    let f = field_of_ref c.at-field.result in
     let e = sym p ∙ c.in-Some.is in
     let r = typed (value c.args.levels) c.args.field_type c.args.bytes.now in
     let first = sym (m id c.in-Some.place e).1 ∙ sym c.set_mark.ensures.was ∙ c.if-set_mark.false in
-    let g = ap (λ (u : TypeTree). seen (after u c.args.progress.now) r) c.ty.ensures ∙ sym (known_is fs c.args.progress.now ids id r f (place_find fs id c.in-Some.place f e c.field_at-field.ensures) first) in
+    let g = ap (λ (u : TypeTree). seen (after u c.args.progress.now) r) c.ty.ensures ∙ sym (known_is fs c.args.progress.now ids id r f (place_find fs id c.in-Some.place f e c.at-field.ensures) first) in
     subst (λ z. Gives (λ x. (c.check_typed.new.progress, x.now)) c.check_typed.result z) g c.check_typed.ensures.reads
 
 pub check_field-returns-clause-marked : goal.check_field-returns-clause-marked
 check_field-returns-clause-marked t c id ids p m =
-    let fs = fields_of (type_of_ref c.args.ty) in
+    let fs = fields_of_refs c.args.fields in
     let marks = c.args.marks.now.items in
     let more = marked_more fs (drop c.args.base marks) ids id c.in-Some.place m (sym p ∙ c.in-Some.is) in
     let same = ap (drop c.args.base) c.set_mark.ensures.new ∙ drop-set-add c.args.base marks c.in-Some.place true in
@@ -314,53 +314,77 @@ check_pairs-returns-clause-reads t c =
 
 pub check_struct-fields-init : goal.check_struct-fields-init
 check_struct-fields-init t c =
-    let fs = fields_of (type_of_ref c.args.ty) in
+    let fs = fields_of_refs c.fields-fields.result in
     let h = AreBytes-from c.args.bytes.now (λ i. omega (arith, c.type_inv.bytes i)) in
     let r = fields_begin (after_field fs) (after_fields fs) (no_more_fields fs) (one_more_field fs) c.args.levels (c.pass_node.new.progress, []) c.args.bytes.now h in
     let b : c.len-base.result ≡ length c.args.marks.now.items = omega (arith, c.len-base.ensures) in
     let added = subst (λ (n : ℕ). Marked fs (drop n c.add_marks.new.marks.items) []) (sym b) c.in_ok-add_marks.ensures.added in
     let counts = fields_begin (counted_field fs) (counted_fields fs) (no_field_counted fs) (field_counted fs) c.args.levels (c.with_struct.result, []) c.args.bytes.now h in
-    (([], added, r, λ clean. counts), omega (arith, ap (λ (s : Progress). s.next) c.pass_node.ensures), refl)
+    (([], added, r, λ clean. counts, stood_none fs []), omega (arith, ap (λ (s : Progress). s.next) c.pass_node.ensures), refl)
+
+pub check_struct-first_missing-missing-requires : goal.check_struct-first_missing-missing-requires
+check_struct-first_missing-missing-requires t c =
+    subst ArePlaced (sym c.fields-fields.ensures) (fields_placed (type_of_ref c.args.ty) c.requires.accepted)
+
+pub check_struct-with_defaults-requires : goal.check_struct-with_defaults-requires
+check_struct-with_defaults-requires t c =
+    subst ArePlaced (sym c.fields-fields.ensures) (fields_placed (type_of_ref c.args.ty) c.requires.accepted)
+
+pub check_struct-check_field-requires : goal.check_struct-check_field-requires
+check_struct-check_field-requires t c =
+    let f : SFits w16 c.in-Some.id = search rules in
+    let place = simp to_z-of_z at c.place_near-place.ensures in (
+      omega (arith, c.decreases),
+      (
+        omega (arith, c.in_ok-start.ensures.shorter, c.fields.invariant.1, c.requires.room),
+        (
+          subst AreTyped (sym c.fields-fields.ensures) (fields_typed (type_of_ref c.args.ty) c.requires.accepted),
+          place_fits (fields_of_refs c.fields-fields.result) c.in-Some.id c.place_near-place.result place,
+        ),
+      ),
+    )
 
 pub check_struct-returns-in_err-start-clause-reads : goal.check_struct-returns-in_err-start-clause-reads
 check_struct-returns-in_err-start-clause-reads t c =
-    let fs = fields_of (type_of_ref c.args.ty) in
+    let fs = fields_of_refs c.fields-fields.result in
     let p = err_from_is_err_and c.from_residual-in_err-start.result c.from_residual-in_err-start.ensures.1 in
     let i = c.fields.invariant.0 in
     let reading = subst (λ (p : Progress). Reading (after_field fs) (after_fields fs) (no_more_fields fs) (one_more_field fs) c.args.levels (c.fields.progress, i.0) c.fields.before.id c.fields.rest.now (seen (after_fields fs (p, [])) (all_fields c.args.levels (value c.args.levels) c.args.bytes.now))) c.pass_node.ensures i.2 in
     let e = start_end (after_field fs) (after_fields fs) (no_more_fields fs) (one_more_field fs) c.args.levels (c.fields.progress, i.0) c.in_err-start.field-0.0 c.fields.before.id c.fields.rest.now _ reading c.in_err-start.ensures.reads in
-    rw (p.1, p.2) (struct_err (type_of_ref c.args.ty) c.args.progress.now (all_fields c.args.levels (value c.args.levels) c.args.bytes.now) c.in_err-start.field-0.0 e)
+    rw (p.1, p.2) (struct_err (type_of_ref c.args.ty) c.args.progress.now (all_fields c.args.levels (value c.args.levels) c.args.bytes.now) c.in_err-start.field-0.0
+    (subst (λ (gs : List DefField). seen (after_fields gs (inside c.args.progress.now, [])) (all_fields c.args.levels (value c.args.levels) c.args.bytes.now) ≡ Err c.in_err-start.field-0.0) c.fields-fields.ensures e))
 
 pub check_struct-returns-in_default-clause-reads : goal.check_struct-returns-in_default-clause-reads
 check_struct-returns-in_default-clause-reads t c =
-    let fs = fields_of (type_of_ref c.args.ty) in
+    let fs = fields_of_refs c.fields-fields.result in
     let i = c.fields.invariant.0 in
     let reading = subst (λ (p : Progress). Reading (after_field fs) (after_fields fs) (no_more_fields fs) (one_more_field fs) c.args.levels (c.fields.progress, i.0) c.fields.before.id c.fields.rest.now (seen (after_fields fs (p, [])) (all_fields c.args.levels (value c.args.levels) c.args.bytes.now))) c.pass_node.ensures i.2 in
     let known = c.fields.progress in
     let m = subst (λ (z : List Bool). Marked fs (drop c.len-base.result z) i.0) (sym c.as_slice.ensures.value) i.1 in
     let e = fields_done (after_field fs) (after_fields fs) (no_more_fields fs) (one_more_field fs) c.args.levels (known, i.0) c.fields.before.id c.fields.rest.now c.in_ok-start.behind.now _ reading
     (c.in_ok-start.ensures.reads ∙ ap (λ o. Ok (o, c.in_ok-start.behind.now)) c.in_default.is) in
-    rw c.note_missing.ensures (struct_ok (type_of_ref c.args.ty) c.args.progress.now (all_fields c.args.levels (value c.args.levels) c.args.bytes.now) known i.0 c.in_ok-start.behind.now (struct_code (type_of_ref c.args.ty) c.requires.is_struct) e
-    ∙ ap (λ (ks : List NodeFault). Ok (progress (lesser known.found (least (all_here c.args.progress.now.next ks))) known.next, c.in_ok-start.behind.now)) (sym (c.first_missing-missing.ensures i.0 m)))
+    rw c.note_missing.ensures (struct_ok (type_of_ref c.args.ty) c.args.progress.now (all_fields c.args.levels (value c.args.levels) c.args.bytes.now) known i.0 c.in_ok-start.behind.now (struct_code (type_of_ref c.args.ty) c.requires.is_struct)
+    (subst (λ (gs : List DefField). seen (after_fields gs (inside c.args.progress.now, [])) (all_fields c.args.levels (value c.args.levels) c.args.bytes.now) ≡ Ok ((known, i.0), c.in_ok-start.behind.now)) c.fields-fields.ensures e)
+    ∙ ap (λ (ks : List NodeFault). Ok (progress (lesser known.found (least (all_here c.args.progress.now.next ks))) known.next, c.in_ok-start.behind.now)) (sym (c.first_missing-missing.ensures i.0 m i.4 ∙ ap (λ (gs : List DefField). missing gs i.0) c.fields-fields.ensures)))
 
 pub check_struct-returns-in_err-behind-clause-reads : goal.check_struct-returns-in_err-behind-clause-reads
 check_struct-returns-in_err-behind-clause-reads t c =
-    let fs = fields_of (type_of_ref c.args.ty) in
+    let fs = fields_of_refs c.fields-fields.result in
     let f : SFits w16 c.in-Some.id = search rules in
     let p = err_from_is_err_and c.from_residual-in_err-behind.result c.from_residual-in_err-behind.ensures.1 in
     let i = c.fields.invariant.0 in
     let reading = subst (λ (p : Progress). Reading (after_field fs) (after_fields fs) (no_more_fields fs) (one_more_field fs) c.args.levels (c.fields.progress, i.0) c.fields.before.id c.fields.rest.now (seen (after_fields fs (p, [])) (all_fields c.args.levels (value c.args.levels) c.args.bytes.now))) c.pass_node.ensures i.2 in
-    let place = simp to_z-of_z at c.find_place-place.ensures in
+    let place = simp to_z-of_z at c.place_near-place.ensures in
     let k = c.in_err-behind.ensures.reads c.in-Some.id i.0 place i.1 in
-    rw (p.1, p.2) (field_fails (type_of_ref c.args.ty) c.args.progress.now c.args.levels (all_fields c.args.levels (value c.args.levels) c.args.bytes.now) c.in_err-behind.field-0.0 c.fields.progress i.0 c.fields.before.id c.in-Some.id c.in-Some.field_type c.fields.rest.now c.in_ok-start.behind.now reading
+    rw (p.1, p.2) (field_fails (type_of_ref c.args.ty) c.args.progress.now c.args.levels (all_fields c.args.levels (value c.args.levels) c.args.bytes.now) fs c.fields-fields.ensures c.in_err-behind.field-0.0 c.fields.progress i.0 c.fields.before.id c.in-Some.id c.in-Some.field_type c.fields.rest.now c.in_ok-start.behind.now reading
     (c.in_ok-start.ensures.reads ∙ ap (λ o. Ok (o, c.in_ok-start.behind.now)) c.in-Some.is) k)
 
 pub check_struct-fields-smaller : goal.check_struct-fields-smaller
 check_struct-fields-smaller t c =
     let f : SFits w16 c.in-Some.id = search rules in
-    let fs = fields_of (type_of_ref c.args.ty) in
+    let fs = fields_of_refs c.fields-fields.result in
     let i = c.fields.invariant.0 in
-    let place = simp to_z-of_z at c.find_place-place.ensures in
+    let place = simp to_z-of_z at c.place_near-place.ensures in
     let k = c.in_ok-behind.ensures.reads c.in-Some.id i.0 place i.1 in
     (fields_go_on (after_field fs) (after_fields fs) (no_more_fields fs) (one_more_field fs) c.args.levels (c.fields.progress, i.0) (c.check_field.new.progress, c.in-Some.id ∷ i.0) c.fields.before.id c.in-Some.id c.in-Some.field_type c.fields.rest.now c.in_ok-start.behind.now c.in_ok-behind.behind.now _ i.2
     (c.in_ok-start.ensures.reads ∙ ap (λ o. Ok (o, c.in_ok-start.behind.now)) c.in-Some.is)
@@ -369,9 +393,9 @@ check_struct-fields-smaller t c =
 pub check_struct-fields-preserved : goal.check_struct-fields-preserved
 check_struct-fields-preserved t c =
     let f : SFits w16 c.in-Some.id = search rules in
-    let fs = fields_of (type_of_ref c.args.ty) in
+    let fs = fields_of_refs c.fields-fields.result in
     let i = c.fields.invariant.0 in
-    let place = simp to_z-of_z at c.find_place-place.ensures in
+    let place = simp to_z-of_z at c.place_near-place.ensures in
     let k = c.in_ok-behind.ensures.reads c.in-Some.id i.0 place i.1 in
     let m = c.in_ok-behind.ensures.marked c.in-Some.id i.0 place i.1 in
     let r = (fields_go_on (after_field fs) (after_fields fs) (no_more_fields fs) (one_more_field fs) c.args.levels (c.fields.progress, i.0) (c.check_field.new.progress, c.in-Some.id ∷ i.0) c.fields.before.id c.in-Some.id c.in-Some.field_type c.fields.rest.now c.in_ok-start.behind.now c.in_ok-behind.behind.now _ i.2
@@ -383,7 +407,7 @@ check_struct-fields-preserved t c =
     (fields_go_on (counted_field fs) (counted_fields fs) (no_field_counted fs) (field_counted fs) c.args.levels (c.fields.sums, i.0) (c.check_field.new.sums, c.in-Some.id ∷ i.0) c.fields.before.id c.in-Some.id c.in-Some.field_type c.fields.rest.now c.in_ok-start.behind.now c.in_ok-behind.behind.now _ (i.3 before)
     (c.in_ok-start.ensures.reads ∙ ap (λ o. Ok (o, c.in_ok-start.behind.now)) c.in-Some.is)
     (field_goes_on fs c.fields.sums i.0 c.in-Some.id (typed (value c.args.levels) c.in-Some.field_type c.in_ok-start.behind.now) c.check_field.new.sums c.in_ok-behind.behind.now (c.in_ok-behind.ensures.counts c.in-Some.id i.0 place clean))).1 in
-    ((c.in-Some.id ∷ i.0, m, simp to_z-of_z r, simp to_z-of_z counts), omega (arith, c.in_ok-start.ensures.shorter, c.in_ok-behind.ensures.room, c.fields.invariant.1), c.in_ok-behind.ensures.below ∙ c.fields.invariant.2)
+    ((c.in-Some.id ∷ i.0, m, simp to_z-of_z r, simp to_z-of_z counts, c.stood_behind-stood.ensures fs i.0 c.in-Some.id place i.4), omega (arith, c.in_ok-start.ensures.shorter, c.in_ok-behind.ensures.room, c.fields.invariant.1), c.in_ok-behind.ensures.below ∙ c.fields.invariant.2)
 
 -- ---- what is counted
 
@@ -443,7 +467,7 @@ check_typed-returns-else-code-eq1-clause-counts t c clean = absurd (noted c.args
 
 pub check_field-returns-in_default-clause-counts : goal.check_field-returns-in_default-clause-counts
 check_field-returns-in_default-clause-counts t c id ids p clean =
-    let fs = fields_of (type_of_ref c.args.ty) in
+    let fs = fields_of_refs c.args.fields in
     unknown_counted fs c.args.sums.now ids id (typed (value c.args.levels) c.args.field_type c.args.bytes.now) _ _ c.in_ok-next.rest.now (place_found fs id (sym p ∙ c.in_default.is)) c.in_ok-next.ensures.reads
 
 pub check_field-returns-then-set_mark-clause-counts : goal.check_field-returns-then-set_mark-clause-counts
@@ -451,13 +475,13 @@ check_field-returns-then-set_mark-clause-counts t c id ids p clean = absurd (not
 
 pub check_field-returns-clause-counts : goal.check_field-returns-clause-counts
 check_field-returns-clause-counts t c id ids p =
-    let fs = fields_of (type_of_ref c.args.ty) in
-    let f = field_of_ref c.field_at-field.result in
+    let fs = fields_of_refs c.args.fields in
+    let f = field_of_ref c.at-field.result in
     let e = sym p ∙ c.in-Some.is in
     let r = typed (value c.args.levels) c.args.field_type c.args.bytes.now in
     let g = ap (λ (u : TypeTree). seen (counted u c.with_need.result) r) c.ty.ensures
     ∙ ap (λ (s : Checked). seen (counted f.type s) r) (c.with_need.ensures ∙ ap (λ n. grown c.args.sums.now (by_need n)) c.need.ensures)
-    ∙ sym (known_counted fs c.args.sums.now ids id r f (place_find fs id c.in-Some.place f e c.field_at-field.ensures)) in
+    ∙ sym (known_counted fs c.args.sums.now ids id r f (place_find fs id c.in-Some.place f e c.at-field.ensures)) in
     subst (λ z. IfOk c.check_typed.result (λ x. IsCount c.check_typed.new.progress c.check_typed.new.sums x.now z)) g c.check_typed.ensures.counts
 
 pub check_map-returns-then-count-eq0-clause-counts : goal.check_map-returns-then-count-eq0-clause-counts
@@ -489,11 +513,12 @@ check_pairs-returns-clause-counts t c clean =
 
 pub check_struct-returns-in_default-clause-counts : goal.check_struct-returns-in_default-clause-counts
 check_struct-returns-in_default-clause-counts t c clean =
-    let fs = fields_of (type_of_ref c.args.ty) in
+    let fs = fields_of_refs c.fields-fields.result in
     let i = c.fields.invariant.0 in
     let before = none_left c.fields.progress.found _ (sym (ap (λ (p : Progress). p.found) c.note_missing.ensures) ∙ clean) in
     let reading = subst (λ (s : Checked). Reading (counted_field fs) (counted_fields fs) (no_field_counted fs) (field_counted fs) c.args.levels (c.fields.sums, i.0) c.fields.before.id c.fields.rest.now (seen (counted_fields fs (s, [])) (all_fields c.args.levels (value c.args.levels) c.args.bytes.now))) c.with_struct.ensures (i.3 before) in
     let m = subst (λ (z : List Bool). Marked fs (drop c.len-base.result z) i.0) (sym c.as_slice-in_default.ensures.value) i.1 in
     let e = fields_done (counted_field fs) (counted_fields fs) (no_field_counted fs) (field_counted fs) c.args.levels (c.fields.sums, i.0) c.fields.before.id c.fields.rest.now c.in_ok-start.behind.now _ reading
     (c.in_ok-start.ensures.reads ∙ ap (λ o. Ok (o, c.in_ok-start.behind.now)) c.in_default.is) in
-    rw (c.with_defaults.ensures i.0 m) (struct_counted (type_of_ref c.args.ty) c.args.sums.now c.args.levels (all_fields c.args.levels (value c.args.levels) c.args.bytes.now) c.fields.sums i.0 c.in_ok-start.behind.now (struct_code (type_of_ref c.args.ty) c.requires.is_struct) e)
+    rw (c.with_defaults.ensures i.0 m i.4 ∙ ap (λ (gs : List DefField). grown c.fields.sums (defaults_beside gs i.0)) c.fields-fields.ensures) (struct_counted (type_of_ref c.args.ty) c.args.sums.now c.args.levels (all_fields c.args.levels (value c.args.levels) c.args.bytes.now) c.fields.sums i.0 c.in_ok-start.behind.now (struct_code (type_of_ref c.args.ty) c.requires.is_struct)
+    (subst (λ (gs : List DefField). seen (counted_fields gs (grown c.args.sums.now a_struct, [])) (all_fields c.args.levels (value c.args.levels) c.args.bytes.now) ≡ Ok ((c.fields.sums, i.0), c.in_ok-start.behind.now)) c.fields-fields.ensures e))

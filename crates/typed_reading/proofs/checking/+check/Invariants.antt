@@ -1,14 +1,13 @@
 use Rattle.std.proofs.Common.{None, ◌≡◌, ◌+◌, ◌-◌, ◌*◌, ◌≤◌, length, List, [], take, drop}
 use Rattle.std.specs.Prelude.{ℤ}
 use Rattle.compact_wire.specs.Reads.{items, pairs, value, all_fields}
-use Rattle.idl_profile.specs.Types.{fields_of}
-use Rattle.idl_parse.specs.Refs.{type_of_ref}
+use Rattle.idl_parse.specs.Refs.{type_of_ref, fields_of_refs}
 use Rattle.exact_reading.specs.Reading.{seen}
 use Rattle.key_order.specs.Entries.{placed}
 use Rattle.wire_scan.proofs.Seen.{Reading}
 use Rattle.typed_reading.specs.Counts.{counted_items, counted_pairs, counted_field, counted_fields}
 use Rattle.typed_reading.specs.Progress.{after_items, after_pairs, after_field, after_fields}
-use Rattle.typed_reading.specs.Marks.{Marked, Climbs}
+use Rattle.typed_reading.specs.Marks.{Marked, HaveStood, Climbs}
 use Rattle.typed_reading.proofs.CountSteps.{no_field_counted, field_counted}
 use Rattle.typed_reading.proofs.Steps.{no_more_fields, one_more_field}
 use Rattle.typed_reading.proofs.checking.+check.Given as goal
@@ -62,11 +61,12 @@ invariant-check_pairs-loop l =
 
 abbrev pub invariant-check_struct-fields : goal.invariant-check_struct-fields
 invariant-check_struct-fields l =
-    ((ids : List ℤ) × Marked (fields_of (type_of_ref l.ty)) (drop l.base l.marks.items) ids
-    × Reading (after_field (fields_of (type_of_ref l.ty))) (after_fields (fields_of (type_of_ref l.ty))) (no_more_fields (fields_of (type_of_ref l.ty))) (one_more_field (fields_of (type_of_ref l.ty))) l.levels (l.progress, ids) l.before.id l.rest
-    (seen (after_fields (fields_of (type_of_ref l.ty)) (l.initial.progress, [])) (all_fields l.levels (value l.levels) l.bytes))
-    × (l.progress.found ≡ None → Reading (counted_field (fields_of (type_of_ref l.ty))) (counted_fields (fields_of (type_of_ref l.ty))) (no_field_counted (fields_of (type_of_ref l.ty))) (field_counted (fields_of (type_of_ref l.ty))) l.levels (l.sums, ids) l.before.id l.rest
-    (seen (counted_fields (fields_of (type_of_ref l.ty)) (l.initial.sums, [])) (all_fields l.levels (value l.levels) l.bytes))))
+    ((ids : List ℤ) × Marked (fields_of_refs l.fields) (drop l.base l.marks.items) ids
+    × Reading (after_field (fields_of_refs l.fields)) (after_fields (fields_of_refs l.fields)) (no_more_fields (fields_of_refs l.fields)) (one_more_field (fields_of_refs l.fields)) l.levels (l.progress, ids) l.before.id l.rest
+    (seen (after_fields (fields_of_refs l.fields) (l.initial.progress, [])) (all_fields l.levels (value l.levels) l.bytes))
+    × (l.progress.found ≡ None → Reading (counted_field (fields_of_refs l.fields)) (counted_fields (fields_of_refs l.fields)) (no_field_counted (fields_of_refs l.fields)) (field_counted (fields_of_refs l.fields)) l.levels (l.sums, ids) l.before.id l.rest
+    (seen (counted_fields (fields_of_refs l.fields) (l.initial.sums, [])) (all_fields l.levels (value l.levels) l.bytes)))
+    × HaveStood (fields_of_refs l.fields) ids l.stood)
     × (l.progress.next + length l.rest ≤ l.node + length l.bytes + 1)
     × (take l.base l.marks.items ≡ take l.base l.initial.marks.items)
 

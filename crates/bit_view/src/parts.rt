@@ -81,6 +81,7 @@ impl<'a> View<'a> {
     }
 
     /// A field of a struct by its id. `None` exactly where the struct has none.
+    #[inline]
     pub fn field(self, id: i16) -> Option<View<'a>>
         requires { IsRecord (value_of_view self) }
         ensures value { option_map value_of_view result ≡ field_of (value_of_view self.entry) id }

@@ -111,6 +111,7 @@ impl<'a> Lens<'a> {
     }
 
     /// A field of a struct. `None` where it is optional and not there.
+    #[inline(always)]
     pub fn part(self, field: FieldRef<'a>) -> Option<Lens<'a>>
         requires { Contains (fields_of (type_of_lens self)) (field_of_ref field) }
         ensures value { option_map value_of_lens result

@@ -1,3 +1,4 @@
+pub mod Counting
 pub mod FlatTypes
 pub mod LensParts
 pub mod Written

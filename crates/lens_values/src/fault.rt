@@ -1,6 +1,7 @@
 //! Why a part of a file is not written.
 ghost use Rattle.std.specs.Prelude.{◌≡◌};
 ghost use Rattle.lens_values.specs.declared.fault.ThawFault.TheVariants.{NoMemory};
+ghost use Rattle.lens_values.specs.declared.fault.Halt.TheVariants as halts;
 
 use std::alloc::AllocError;
 use thiserror::Error;
@@ -21,5 +22,22 @@ impl From<AllocError> for ThawFault {
 
     fn from(_: AllocError) -> ThawFault {
         ThawFault::NoMemory
+    }
+}
+
+/// Why the writing of a part stops short of its end.
+#[derive(Clone, Copy, Debug)]
+pub(crate) enum Halt {
+    /// There is not enough memory.
+    NoMemory,
+    /// The part has more cells than a value may have.
+    TooMany,
+}
+
+impl From<AllocError> for Halt {
+    ghost from_gives = { λ _ h. h ≡ halts.NoMemory };
+
+    fn from(_: AllocError) -> Halt {
+        Halt::NoMemory
     }
 }

@@ -3,6 +3,7 @@
 #![tactic(auto)]
 
 mod cells;
+mod counted;
 mod fault;
 mod flat;
 mod thawing;

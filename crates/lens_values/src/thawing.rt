@@ -8,27 +8,43 @@ ghost use Rattle.evolve.specs.Lenses.{type_of_lens, value_of_lens};
 ghost use Rattle.lens_values.specs.Thaws.{IsThawFault};
 
 use crate::cells::lens_cells;
-use crate::fault::ThawFault;
+use crate::counted::CELL_LIMIT;
+use crate::fault::{Halt, ThawFault};
 use crate::writing::push_value;
 use evolve::Lens;
 use std::alloc::Global;
 
-// The most cells that a value may have.
-const CELL_LIMIT: u64 = 33_554_432;
-
-/// The part in its canonical spelling in Compact Protocol (docs/COMPACT.md), written in one pass once its
-/// cells are counted. Where they are more than a value may have, no memory is taken.
+/// The part in its canonical spelling in Compact Protocol (docs/COMPACT.md), written in one pass that counts
+/// its cells too. Where they come to more than a value may have, it stops before it writes what has them: so
+/// the memory is at most what a value within the limit takes. Then a second pass counts all cells.
 pub fn thaw(alloc: Global, from: Lens<'_>) -> Result<Vec<u8>, ThawFault>
     ensures bytes { IfOk result (λ out.
         out.items ≡ canon (wire (type_of_lens from.entry) (value_of_lens from.entry))) }
     ensures many { let total = cells (kinds_of (type_of_lens from.entry)) (value_of_lens from.entry) in
         MatchResult result (λ _. total ≤ cell_limit) (IsThawFault total) }
 {
+    let mut out = Vec::new(alloc);
+    let mut counted = 0u64;
+    match push_value(&mut out, &mut counted, from) {
+        Ok(()) => {
+            if counted > CELL_LIMIT {
+                return Err(why_not(from));
+            }
+            Ok(out)
+        }
+        Err(Halt::TooMany) => Err(ThawFault::TooManyCells(lens_cells(from))),
+        Err(Halt::NoMemory) => Err(why_not(from)),
+    }
+}
+
+// Why a part is not written to its end, which is told by its cells.
+#[cold]
+fn why_not(from: Lens<'_>) -> ThawFault
+    ensures { IsThawFault (cells (kinds_of (type_of_lens from.entry)) (value_of_lens from.entry)) result }
+{
     let total = lens_cells(from);
     if total > CELL_LIMIT {
-        return Err(ThawFault::TooManyCells(total));
+        return ThawFault::TooManyCells(total);
     }
-    let mut out = Vec::new(alloc);
-    push_value(&mut out, from)?;
-    Ok(out)
+    ThawFault::NoMemory
 }

@@ -4,7 +4,6 @@ use Rattle.idl_parse.specs.Refs.{field_of_ref}
 use Rattle.frozen_model.specs.Values.{Of, cells}
 use Rattle.type_kinds.specs.KindsOf.{kinds_of}
 use Rattle.typed_tree.specs.Sizes.{field_kinds}
-use Rattle.lens_values.specs.Flat.{IsLeaf}
 use Rattle.lens_values.proofs.FlatTypes.{leaf_one, leaf_two}
 use Rattle.lens_values.proofs.cells.leaf_cells.Goals as goal
 

@@ -23,7 +23,7 @@ failed=0
 
 # A house with the script, and no sources but names.
 house() {
-    mkdir -p "$1/crates/frozen_cli/src" "$1/.ci" && cp "$top/frozen" "$top/VERSION" "$1" && cp "$top/.ci/sources" "$1/.ci"
+    mkdir -p "$1/crates/frozen_cli/src" "$1/.ci" && cp "$top/frozen" "$top/VERSION" "$1" && cp "$top/.ci/sources" "$top/.ci/build" "$1/.ci"
     : >"$1/crates.txt"
     : >"$1/HANDLES"
     echo "$1" >"$1/crates/frozen_cli/src/main.rt"

@@ -1,27 +1,24 @@
 use Rattle.std.proofs.Common.{rules, arith, refl, false}
-use Rattle.frozen_model.specs.Rows.{optional_items}
-use Rattle.frozen_model.specs.Layouts.{Version1, TwosComplement, signed_coded, described}
-use Rattle.content_check.proofs.tests.optional_items.Goals as goal
+use Rattle.frozen_model.specs.Rows.{list_of_texts}
+use Rattle.frozen_model.specs.Layouts.{Version1, described}
+use Rattle.layout_tests.proofs.content_check_tests.list_of_texts.Goals as goal
 
 pub from_nodes-requires : goal.from_nodes-requires
 from_nodes-requires c = record {
-  layout = described Version1 false (optional_items 1 2 1 (TwosComplement 4));
+  layout = described Version1 false (list_of_texts 1 3 3 1);
   is = record {
     described = record {
       relaxing = refl;
       layout = record {
         root = tt;
         kind_tree = record {
-          formed = (
-            (omega arith, omega arith, tt),
-            ((tt, ((omega arith, omega arith, tt), ((tt, tt), tt))), tt),
-          );
+          formed = ((omega arith, omega arith, tt), ((tt, tt), tt));
           few = omega arith;
           shallow = omega arith;
-          narrow = (omega arith, ((omega arith, ((omega arith, tt), tt)), tt));
+          narrow = (omega arith, (tt, tt));
         };
-        coded = ((signed_coded, tt), tt);
-        legal = ((omega arith, omega arith, ((omega arith, omega arith), tt)), tt);
+        coded = (tt, tt);
+        legal = ((omega arith, omega arith, (omega arith, omega arith)), tt);
       };
     };
     numbered = refl;
@@ -36,7 +33,6 @@ from_nodes-requires c = record {
       c.node-5.ensures,
       c.node-6.ensures,
       c.node-7.ensures,
-      c.node-8.ensures,
     );
   };
 }

@@ -1,7 +1,7 @@
 use Rattle.std.proofs.Common.{rules, arith, refl, false}
 use Rattle.frozen_model.specs.Rows.{map_of_texts}
 use Rattle.frozen_model.specs.Layouts.{Version1, TwosComplement, signed_coded, described}
-use Rattle.content_check.proofs.tests.map_of_texts.Goals as goal
+use Rattle.layout_tests.proofs.content_check_tests.map_of_texts.Goals as goal
 
 pub from_nodes-requires : goal.from_nodes-requires
 from_nodes-requires c = record {

@@ -8,7 +8,7 @@ use Rattle.typed_tree.specs.Parts.{IsInt, field_of, fields_of}
 use Rattle.bit_view.specs.Views.{value_of_view}
 use Rattle.layout_tree.proofs.Worked.{worked, given, lists}
 use Rattle.bit_view.proofs.Worked.{content_is, number_found}
-use Rattle.bit_view.proofs.tests.two_fields_are_read.Goals as goal
+use Rattle.layout_tests.proofs.bit_view_tests.two_fields_are_read.Goals as goal
 
 pub from_nodes-layouts-requires : goal.from_nodes-layouts-requires
 from_nodes-layouts-requires g c = lists _ (search (rules, c.in_ok-to_vec.ensures.items_if_clones_equal))

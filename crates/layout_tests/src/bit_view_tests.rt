@@ -1,6 +1,6 @@
 //! A worked content.
 
-use crate::View;
+use bit_view::View;
 use layout_tree::{Kind, Layouts, NodeSpec};
 use std::test::Fail;
 

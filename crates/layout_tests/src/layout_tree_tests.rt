@@ -1,13 +1,10 @@
-//! A small packing.
+//! A small layout.
 
-use super::freeze_into;
-use block_region::Region;
 use layout_tree::{Kind, Layouts, NodeSpec};
 use std::test::Fail;
-use typed_tree::Builder;
 
 #[test]
-fn two_fields_are_packed(rt: HostRuntime) -> Result<(), Fail> {
+fn nodes_of_two_fields(rt: HostRuntime) -> Result<(), Fail> {
     let root = NodeSpec {
         kind: Kind::Struct,
         field: 0,
@@ -36,13 +33,11 @@ fn two_fields_are_packed(rt: HostRuntime) -> Result<(), Fail> {
         base: 0,
     };
     let layouts = Layouts::from_nodes([root, x, y].to_vec(rt.alloc())?, 1, false);
-    let mut builder = Builder::new(rt.alloc());
-    builder.int(5)?;
-    builder.int(-1)?;
-    builder.structure(&[1, 2])?;
-    let tree = builder.finish();
-    let mut region = Region::reserve(rt.alloc(), 1)?;
-    freeze_into(&layouts, tree.top(), &mut region);
-    assert_eq!(rt; region.finish().as_slice(), [0x15].as_slice());
+    assert_eq!(rt; layouts.version(), 1);
+    assert_eq!(rt; layouts.count(), 3);
+    assert_eq!(rt; layouts.past(0), 3);
+    assert_eq!(rt; layouts.child(0, 2), Some(2));
+    assert_eq!(rt; layouts.node(2).offset, 4);
+    assert!(rt; layouts.is_settled());
     Ok(())
 }

@@ -1,7 +1,7 @@
 //! The schema of a small layout, written and read.
 
-use super::{SchemaFault, read_schema, write_schema};
 use compact_wire::WireFault;
+use layout_schema::{SchemaFault, read_schema, write_schema};
 use layout_tree::{Kind, Layouts, NodeSpec};
 use std::test::Fail;
 

@@ -2,7 +2,7 @@
 ghost use Rattle.std.specs.Prelude.{◌≡◌, pos};
 ghost use Rattle.content_check.specs.Nodes.{node_of};
 
-use super::{ContentFault, check_content};
+use content_check::{ContentFault, check_content};
 use layout_tree::{Kind, Layouts, NodeSpec};
 use std::alloc::{AllocError, Global};
 use std::test::Fail;

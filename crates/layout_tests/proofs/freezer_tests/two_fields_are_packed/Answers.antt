@@ -14,7 +14,7 @@ use Rattle.frozen_laws.proofs.Holding.{fit_at}
 use Rattle.layout_tree.specs.Nodes.{layout_of}
 use Rattle.layout_tree.proofs.Worked.{worked, given, lists}
 use Rattle.typed_tree.specs.References.{value_of_ref}
-use Rattle.freezer.proofs.tests.two_fields_are_packed.Goals as goal
+use Rattle.layout_tests.proofs.freezer_tests.two_fields_are_packed.Goals as goal
 
 head_same : {x y : Value} → ◌≡◌ {A = List Value} (x ∷ []) (y ∷ []) → x ≡ y
 head_same e = cc

@@ -28,6 +28,3 @@ pub use room::Room;
 pub use sizes::{default_cells, default_room, inline_cells};
 pub use tree::{Tree, TreeKind, TreeRef};
 pub use value_cells::{cells, cells_by_ranges};
-
-#[cfg(test)]
-mod tests;

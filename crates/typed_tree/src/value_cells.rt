@@ -127,27 +127,3 @@ fn optional_cells(ty: TypeRef<'_>, value: TreeRef<'_>) -> u64
 pub fn cells_by_ranges()
     ensures { CellsByRanges }
 {}
-
-#[cfg(test)]
-mod tests {
-    use crate::{Builder, cells};
-    use std::test::Fail;
-    use thrift_idl::{Need, TypeKind, parse};
-
-    #[test]
-    fn an_absent_optional(rt: HostRuntime) -> Result<(), Fail> {
-        let def = parse(rt.alloc(), b"struct S {1: optional i64 n}")?;
-        let ty = def.root();
-        assert_eq!(rt; ty.kind(), TypeKind::Struct);
-        assert_eq!(rt; ty.field_count(), 1);
-        let field = ty.field_at(0);
-        assert_eq!(rt; field.id(), 1);
-        assert_eq!(rt; field.need(), Need::Optional);
-        let mut builder = Builder::new(rt.alloc());
-        builder.absent()?;
-        builder.structure(&[1])?;
-        let tree = builder.finish();
-        assert_eq!(rt; cells(ty, tree.top()), 2);
-        Ok(())
-    }
-}

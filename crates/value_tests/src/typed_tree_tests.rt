@@ -1,9 +1,9 @@
 //! Each call once, on small trees.
 
-use crate::{Builder, TableFault, TreeKind, compare_keys, default_field, default_of};
 use std::cmp::Ordering;
 use std::test::Fail;
-use thrift_idl::parse;
+use thrift_idl::{Need, TypeKind, parse};
+use typed_tree::{Builder, TableFault, TreeKind, cells, compare_keys, default_field, default_of};
 
 #[test]
 fn a_flag(rt: HostRuntime) -> Result<(), Fail> {
@@ -171,5 +171,22 @@ fn what_nobody_gave(rt: HostRuntime) -> Result<(), Fail> {
             kind => assert_eq!(rt; kind, TreeKind::Absent),
         }
     }
+    Ok(())
+}
+
+#[test]
+fn an_absent_optional(rt: HostRuntime) -> Result<(), Fail> {
+    let def = parse(rt.alloc(), b"struct S {1: optional i64 n}")?;
+    let ty = def.root();
+    assert_eq!(rt; ty.kind(), TypeKind::Struct);
+    assert_eq!(rt; ty.field_count(), 1);
+    let field = ty.field_at(0);
+    assert_eq!(rt; field.id(), 1);
+    assert_eq!(rt; field.need(), Need::Optional);
+    let mut builder = Builder::new(rt.alloc());
+    builder.absent()?;
+    builder.structure(&[1])?;
+    let tree = builder.finish();
+    assert_eq!(rt; cells(ty, tree.top()), 2);
     Ok(())
 }

@@ -12,7 +12,7 @@ use Rattle.type_kinds.specs.KindsOf.{kinds_of}
 use Rattle.typed_tree.specs.Fields as values
 use Rattle.typed_tree.specs.Trees.{trees, last, but_last}
 use Rattle.typed_tree.specs.References.{value_of_ref}
-use Rattle.typed_tree.proofs.value_cells.tests.an_absent_optional.Goals as goal
+use Rattle.value_tests.proofs.typed_tree_tests.an_absent_optional.Goals as goal
 
 by_fields : (fs : Fields) (f : DefField) → length (field_list fs) ≡ 1 → get_or (field_list fs) 0 f ≡ f → f.id ≡ pos 1 → f.need ≡ Optional → Of (kinds_of (named (struct_of [] fs))) (Record (1 ∷ []) (And Absent NoValue))
 by_fields no_fields f one at id is = absurd (omega (arith, one))

@@ -1,6 +1,6 @@
 //! What no clause says: that a value is read and written where there is memory.
 
-use super::{decode, encode};
+use compact_codec::{decode, encode};
 use std::test::Fail;
 use thrift_idl::parse;
 

@@ -94,7 +94,7 @@ pair_binds : {A B : Type 0} (first second : Tree A B → Type 0) (f g : Tree A B
     → BindsPair first second l
 pair_binds first second f g (Struct (Field i k (Field j v NoField))) p q e =
     let both = none_of_both (under (pos 1) (f k)) (under (pos 2) (g v)) e in
-    (p k (none_under 1 (f k) both.0), q v (none_under 2 (g v) both.1))
+    (p k (none_under (pos 1) (f k) both.0), q v (none_under (pos 2) (g v) both.1))
 pair_binds first second f g l p q e = absurd cc
 
 field_binds : {A B : Type 0} (n : Need) (binds : Tree A B → Type 0) (f : Tree A B → Option Unbound)
@@ -105,7 +105,7 @@ field_binds Plain binds f None p e = tt
 field_binds Optional binds f None p e = tt
 field_binds Plain binds f (Some l) p e = p l e
 field_binds Required binds f (Some l) p e = p l e
-field_binds Optional binds f (Some (tree.Optional w l)) p e = p l (none_under 2 (f l) e)
+field_binds Optional binds f (Some (tree.Optional w l)) p e = p l (none_under (pos 2) (f l) e)
 field_binds Optional binds f (Some l) p e = absurd cc
 
 mutual
@@ -114,12 +114,12 @@ mutual
   binding r (scalar s) (Leaf k a) e = none_unless _ e
   binding r text (ByteRange Text d c) e = tt
   binding r bytes (ByteRange Binary d c) e = tt
-  binding r (list_of x) (ItemRange AList d c l) e = binding r x l (none_under 3 (type_fault r x l) e)
-  binding r (set_of x) (ItemRange ASet d c l) e = binding r x l (none_under 3 (type_fault r x l) e)
+  binding r (list_of x) (ItemRange AList d c l) e = binding r x l (none_under (pos 3) (type_fault r x l) e)
+  binding r (set_of x) (ItemRange ASet d c l) e = binding r x l (none_under (pos 3) (type_fault r x l) e)
   binding {A} {B} r (map_of x y) (ItemRange AMap d c l) e =
       pair_binds (λ (k : Tree A B). Binds r x k) (λ (v : Tree A B). Binds r y v)
       (λ (k : Tree A B). type_fault r x k) (λ (v : Tree A B). type_fault r y v) l
-      (λ k. binding r x k) (λ v. binding r y v) (none_under 3 _ e)
+      (λ k. binding r x k) (λ v. binding r y v) (none_under (pos 3) _ e)
   binding r (named n) l e = named_binding r n l e
   binding r t l e = absurd cc
 

@@ -1,5 +1,5 @@
 -- Why a command is refused: the exit status and the line of each refusal.
-use Rattle.std.specs.Prelude.{◌⊎◌, ℕ, Bool, true, false, List, [], ◌∷◌, ◌++◌, codes, ⊤, string_bytes}
+use Rattle.std.specs.Prelude.{◌⊎◌, ℕ, ℤ, Bool, true, false, List, [], ◌∷◌, ◌++◌, codes, ⊤, string_bytes}
 use Rattle.std.specs.Fmt.{decimal, signed_decimal}
 use Rattle.idl_parse.specs.declared.fault.DefFault.{DefFault}
 use Rattle.idl_parse.specs.declared.fault.DefFault.TheVariants as faults
@@ -102,11 +102,11 @@ abbrev pub dot_if : Bool → List ℕ
 dot_if false = []
 dot_if true = 46 ∷ []
 
-abbrev pub dotted : Bool → List ℕ → List ℕ
+abbrev pub dotted : Bool → List ℤ → List ℕ
 dotted later [] = []
-dotted later (n ∷ ns) = dot_if later ++ (decimal n ++ dotted true ns)
+dotted later (z ∷ zs) = dot_if later ++ (signed_decimal z ++ dotted true zs)
 
-abbrev pub ids_text : List ℕ → List ℕ
+abbrev pub ids_text : List ℤ → List ℕ
 ids_text ids = dotted false ids
 
 -- the exit status

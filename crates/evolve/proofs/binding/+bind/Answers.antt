@@ -410,7 +410,7 @@ bind_struct-returns-in-Err t c =
     let h = c.in-Err.ensures k.nodes.items c.bind_field.new.nodes.items (fault_at r x ls)
     (plan_at x ls (1 + node))
     c.bind_field.ensures in
-    st.err c.in-Err.fault (subst (λ (z : ℤ). Tells (under (nat_abs z) (fault_at r x ls)) c.in-Err.fault)
+    st.err c.in-Err.fault (subst (λ (z : ℤ). Tells (under z (fault_at r x ls)) c.in-Err.fault)
     (to_z-of_z w16 c.id.result s ∙ c.id.ensures) h)
 
 pub bind_struct-loop-i-preserved : goal.bind_struct-loop-i-preserved
@@ -430,7 +430,7 @@ bind_struct-loop-i-preserved t c =
     (plan_at x ls (1 + node))
     c.bind_field.ensures in
     st.ok c.bind_field.new.nodes.items
-    (subst (λ (z : ℤ). under (nat_abs z) (fault_at r x ls) ≡ None)
+    (subst (λ (z : ℤ). under z (fault_at r x ls) ≡ None)
     (to_z-of_z w16 c.id.result s ∙ c.id.ensures)
     h.0) h.1
 

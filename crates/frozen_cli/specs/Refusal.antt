@@ -86,7 +86,7 @@ open_text (opening.Dirty bit) = codes "6 bit " ++ decimal bit
 open_text (opening.BadText byte) = codes "7 byte " ++ decimal byte
 open_text (opening.KeyOrder bit) = codes "8 bit " ++ decimal bit
 open_text opening.TooManyCells = codes "9"
-open_text (opening.OutOfRange bit) = codes "10 bit " ++ decimal bit
+open_text (opening.Range bit) = codes "10 bit " ++ decimal bit
 open_text opening.NoMemory = []
 
 -- the number of a path's fault, and the byte where its step begins

@@ -7,6 +7,7 @@ pub mod Numbers
 pub mod Fields
 pub mod Offsets
 pub mod Seen
+pub mod Pairs
 pub mod Cursors
 pub mod FieldCursors
 pub mod Worked

@@ -1,11 +1,11 @@
 -- What a view stands for.
-use Rattle.std.specs.Prelude.{Bool}
+use Rattle.std.specs.Prelude.{Bool, Option}
 use Rattle.frozen_model.specs.Values.{Value, Absent}
 use Rattle.frozen_model.specs.Layouts.{Layout}
 use Rattle.typed_tree.specs.Parts.{IsFlag, IsInt, IsText, IsBytes, IsList, IsSet, IsMap, IsRecord, IsPresent}
 use Rattle.layout_tree.specs.declared.node.Kind.{Kind}
 use Rattle.layout_tree.specs.declared.node.Kind.TheVariants as k
-use Rattle.layout_tree.specs.Nodes.{layout_of, at}
+use Rattle.layout_tree.specs.Nodes.{layout_of, at, kind_of_node}
 use Rattle.bit_view.specs.declared.view.View.{View}
 use Rattle.bit_view.specs.Lying.{IsPart}
 use Rattle.bit_view.specs.InPlace.{read_value}
@@ -13,6 +13,10 @@ use Rattle.bit_view.specs.InPlace.{read_value}
 -- the layout of the part
 abbrev pub layout_of_view : View → Layout
 layout_of_view w = at w.layouts.now w.node
+
+-- the kind of the part: of a struct that is the item of a map it is that of a pair
+abbrev pub kind_of_view : View → Option Kind
+kind_of_view w = kind_of_node w.layouts.now w.node
 
 -- whether a definition that binds to the layout may have wider whole numbers
 abbrev pub is_relaxed : View → Bool

@@ -1,14 +1,15 @@
 //! From a view to views of the parts of its value.
 
-ghost use Rattle.std.specs.Prelude.{◌≡◌, ◌<◌, Some, IsSome, IfSome, option_map};
+ghost use Rattle.std.specs.Prelude.{◌≡◌, ◌<◌, ◌↔◌, Some, IsSome, IfSome, option_map};
 ghost use Rattle.frozen_model.specs.Values.{Present, count, nth};
+ghost use Rattle.layout_tree.specs.declared.node.Kind.TheVariants as kinds;
 ghost use Rattle.layout_tree.specs.Reading.{item_of};
 ghost use Rattle.typed_tree.specs.Fields.{id_number};
 ghost use Rattle.typed_tree.specs.Parts.{IsItems, IsMap, IsRecord, IsPresent, items_of, fields_of, field_of};
 ghost use Rattle.bit_view.specs.Branches.{inner_of, fields_in, layout_nth, field_tree};
 ghost use Rattle.bit_view.specs.Cursor.{items_left};
 ghost use Rattle.bit_view.specs.Rows.{view_of_row};
-ghost use Rattle.bit_view.specs.Views.{value_of_view, layout_of_view, is_relaxed};
+ghost use Rattle.bit_view.specs.Views.{value_of_view, layout_of_view, kind_of_view, is_relaxed};
 
 use crate::items::Items;
 use crate::row::Row;
@@ -39,6 +40,7 @@ impl<'a> View<'a> {
         requires inside { i < count (items_of (value_of_view self)) }
         ensures item { value_of_view result ≡ nth (items_of (value_of_view self.entry)) i }
         ensures pair { IsMap (value_of_view self.entry) → count (fields_of (value_of_view result)) ≡ 2 }
+        ensures kind { kind_of_view result ≡ Some kinds.Pair ↔ IsMap (value_of_view self.entry) }
         ensures layout { layout_of_view result ≡ item_of (layout_of_view self.entry) }
         ensures relaxed { is_relaxed result ≡ is_relaxed self.entry }
     {

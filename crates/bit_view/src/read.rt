@@ -1,13 +1,14 @@
 //! What a view tells of its own value.
 
-ghost use Rattle.std.specs.Prelude.{◌≡◌, ◌+◌, ◌↔◌, IsTrue};
+ghost use Rattle.std.specs.Prelude.{◌≡◌, ◌+◌, ◌↔◌, IsTrue, Some};
 ghost use Rattle.frozen_model.specs.Bits.{field};
 ghost use Rattle.frozen_model.specs.Values.{Value, Truth, Number, One, Bytes, count};
 ghost use Rattle.frozen_laws.specs.Laws.{IsContent};
 ghost use Rattle.layout_tree.specs.Nodes.{layout_of, IsSettled};
 ghost use Rattle.layout_tree.specs.Reading.{plain, kind_at, IsRange, distance_width, count_width};
 ghost use Rattle.typed_tree.specs.Parts.{IsFlag, IsInt, IsText, IsBytes, IsItems, IsPresent, items_of};
-ghost use Rattle.bit_view.specs.Views.{value_of_view, layout_of_view, is_relaxed, IsOption, HasForm};
+ghost use Rattle.bit_view.specs.Views.{value_of_view, layout_of_view, kind_of_view, is_relaxed};
+ghost use Rattle.bit_view.specs.Views.{IsOption, HasForm};
 
 use crate::view::View;
 use bit_field::{read_bits, read_signed};
@@ -34,10 +35,11 @@ impl<'a> View<'a> {
         }
     }
 
-    /// The kind of the part.
+    /// The kind of the part. A struct that is the item of a map is a pair, and any other is a struct.
     #[inline]
     pub fn kind(self) -> Kind
         ensures kind { plain result ≡ kind_at (layout_of_view self.entry) }
+        ensures told { kind_of_view self.entry ≡ Some result }
         ensures form { HasForm result (value_of_view self.entry) }
     {
         self.layouts.kind(self.node)

@@ -23,12 +23,13 @@ pub struct Row<'a> {
 }
 
 impl<'a> Row<'a> {
-    ghost use Rattle.std.specs.Prelude.{◌<◌};
+    ghost use Rattle.std.specs.Prelude.{◌<◌, ◌↔◌, Some};
     ghost use Rattle.frozen_model.specs.Values.{count, nth};
+    ghost use Rattle.layout_tree.specs.declared.node.Kind.TheVariants as kinds;
     ghost use Rattle.layout_tree.specs.Reading.{item_of};
     ghost use Rattle.typed_tree.specs.Parts.{IsItems, IsMap, items_of, fields_of};
     ghost use Rattle.bit_view.specs.Rows.{view_of_row};
-    ghost use Rattle.bit_view.specs.Views.{value_of_view, is_relaxed};
+    ghost use Rattle.bit_view.specs.Views.{value_of_view, kind_of_view, is_relaxed};
 
     /// The items of a list, a set or a map.
     #[inline]
@@ -50,6 +51,7 @@ impl<'a> Row<'a> {
         ensures item { value_of_view result ≡ nth (items_of (value_of_view (view_of_row self.entry))) i }
         ensures pair { IsMap (value_of_view (view_of_row self.entry))
             → count (fields_of (value_of_view result)) ≡ 2 }
+        ensures kind { kind_of_view result ≡ Some kinds.Pair ↔ IsMap (value_of_view (view_of_row self.entry)) }
         ensures layout { layout_of_view result ≡ item_of (layout_of_view (view_of_row self.entry)) }
         ensures relaxed { is_relaxed result ≡ is_relaxed (view_of_row self.entry) }
     {

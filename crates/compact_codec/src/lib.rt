@@ -14,3 +14,4 @@ pub use encoding::encode;
 pub use laws::{encoding_decodes, encoding_is_typed};
 pub use leaves::{join_map, join_set};
 pub use scalars::{push_byte, push_flag, push_flag_field};
+pub use typed_reading::ValueFault;

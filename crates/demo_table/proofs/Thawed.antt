@@ -7,16 +7,13 @@ use Rattle.type_kinds.specs.KindsOf.{kinds_of}
 use Rattle.type_kinds.specs.Accepted.{IsAccepted}
 use Rattle.root_kinds.proofs.Proper.{root_is_within}
 use Rattle.frozen_model.specs.Values.{Value, cells, cell_limit}
-use Rattle.frozen_model.specs.Layouts.{Described}
-use Rattle.frozen_model.specs.Files.{File, schema_bytes, content_of}
-use Rattle.frozen_laws.specs.Laws.{IsContent, PackingIsInjective}
+use Rattle.frozen_laws.specs.Laws.{PackingIsInjective}
 use Rattle.frozen_laws.proofs.Rests.{cells_same}
 use Rattle.frozen_laws.proofs.SameKinds.{kinds_alike}
 use Rattle.compact_wire.specs.Canon.{canon}
 use Rattle.compact_codec.specs.Wire.{wire}
-use Rattle.layout_schema.specs.Answers.{SchemaBytes}
 use Rattle.layout_schema.specs.Laws.{SchemaIsOfOne}
-use Rattle.file_check.proofs.FileParts.{file_is}
+use Rattle.file_check.proofs.Openings.{one_file}
 use Rattle.evolve.specs.Binding.{Compatible}
 use Rattle.evolve.specs.Laws.{OwnKindsBind, ProjectionIsItself}
 use Rattle.evolve.specs.Projection.{proj}
@@ -25,29 +22,16 @@ use Rattle.demo_table.specs.Laws.{OwnFileIsRead, OwnFileThaws}
 root_accepted : (text : List ℕ) (d : List Named) → DefText text d → IsAccepted IsUtf8 (root_of d)
 root_accepted text d is = (root_is_within IsUtf8 (λ x l. l.1) text d is).accepted
 
--- a file is that of one value in one layout
-one_file : SchemaIsOfOne → PackingIsInjective → (bytes : List ℕ) (d e : Described) (v u : Value)
-    → File SchemaBytes bytes d v → File SchemaBytes bytes e u → (d ≡ e) × (u ≡ v)
-one_file one injective bytes d e v u f g =
-    let p = file_is {S = SchemaBytes} bytes d v f in
-    let q = file_is {S = SchemaBytes} bytes e u g in
-    let same : d ≡ e = one (schema_bytes bytes) d e p.spelled q.spelled in
-    let content = subst (λ (l : Described). IsContent l.tree u (content_of bytes)) (sym same) q.content in (
-      same,
-      injective d.version d.tree u v p.spelled.within.layout.coded content.holds p.content.holds
-          (sym content.packed ∙ p.content.packed),
-    )
-
 pub own_read : SchemaIsOfOne → PackingIsInjective → OwnKindsBind → ProjectionIsItself → OwnFileIsRead
 own_read one injective binds itself text d v bytes is f layout held g =
     let root = root_of d in
     let accepted = root_accepted text d is in
     let of_kind = f.file.holds.of_kind in
-    let own = one_file one injective bytes f.layout layout v held f.file g in
+    let own = one_file one injective bytes layout f.layout held v g f.file in
     let alike = cells_same of_kind (kinds_alike f.layout.tree) in
     let few : cells (kinds_of root) v ≤ cell_limit =
     omega (arith, f.file.within, alike, ap (λ k. cells k v) f.root) in (
-      subst (λ l. Compatible l root) own.0 (binds f.layout root accepted (sym f.root)),
+      subst (λ l. Compatible l root) (sym own.0) (binds f.layout root accepted (sym f.root)),
       ap (proj root) own.1 ∙ itself f.layout.tree root v accepted (sym f.root) of_kind,
       few,
     )

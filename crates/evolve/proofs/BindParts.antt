@@ -1,6 +1,6 @@
 -- The answers for parts, from those for what is below them.
 use Rattle.std.proofs.Common.{◌⊎◌, inl, inr, slice_get, replicate, ◌≡◌, ℕ, suc, ◌+◌, ◌<◌, ◌≤◌, Bool, List, []}
-use Rattle.std.proofs.Common.{◌∷◌, ◌++◌, map, reverse, Option, Some, None, Result, nat_abs, ℤ, refl, sym, ap}
+use Rattle.std.proofs.Common.{◌∷◌, ◌++◌, map, reverse, Option, Some, None, Result, nat_abs, ℤ, pos, refl, sym, ap}
 use Rattle.std.proofs.Common.{◌∙◌, subst, arith}
 use Rattle.idl_profile.specs.declared.kinds.Need.TheVariants.{Plain, Required, Optional}
 use Rattle.idl_profile.specs.declared.kinds.Need.{Need}
@@ -40,25 +40,25 @@ use Rattle.evolve.proofs.FieldSteps.{field_is, ids_small}
 -- ---- a fault at the part itself
 
 pub changed_here : (u : Option Unbound) (ids : List ℤ) → u ≡ Some (type_changed []) → ids ≡ []
-    → u ≡ Some (type_changed (map nat_abs (reverse ids)))
-changed_here u ids e h = e ∙ ap (λ (z : List ℤ). Some (type_changed (map nat_abs (reverse z)))) (sym h)
+    → u ≡ Some (type_changed (reverse ids))
+changed_here u ids e h = e ∙ ap (λ (z : List ℤ). Some (type_changed (reverse z))) (sym h)
 
 pub absent_here : (u : Option Unbound) (ids : List ℤ) → u ≡ Some (required_absent []) → ids ≡ []
-    → u ≡ Some (required_absent (map nat_abs (reverse ids)))
-absent_here u ids e h = e ∙ ap (λ (z : List ℤ). Some (required_absent (map nat_abs (reverse z)))) (sym h)
+    → u ≡ Some (required_absent (reverse ids))
+absent_here u ids e h = e ∙ ap (λ (z : List ℤ). Some (required_absent (reverse z))) (sym h)
 
 -- ---- lists and sets
 
 pub row_answers : (r : Bool) (t u : TypeTree) (l m : Layout) (i j : ℕ) (a b c : List ℕ)
     (q : Result (Unit {0}) BindFault) → RowFits r t l → u ≡ element_of t → m ≡ item_of l → j ≡ i + 3
-    → Adds a b (range_nodes i) → Answers b c (under 3 (type_fault r u m)) (nodes_at u m j) q
+    → Adds a b (range_nodes i) → Answers b c (under (pos 3) (type_fault r u m)) (nodes_at u m j) q
     → Answers a c (type_fault r t l) (nodes_at t l i) q
 row_answers r t u l m i j a b c q f eu em ej add h =
     let three : 3 + i ≡ j = omega arith in
-    answers_after a b c (under 3 (type_fault r u m)) (type_fault r t l) (range_nodes i) (nodes_at u m j)
+    answers_after a b c (under (pos 3) (type_fault r u m)) (type_fault r t l) (range_nodes i) (nodes_at u m j)
     (nodes_at t l i) q add
-    (f.fault ∙ ap (λ (z : TypeTree). under 3 (type_fault r z (item_of l))) (sym eu)
-    ∙ ap (λ (z : Layout). under 3 (type_fault r u z)) (sym em))
+    (f.fault ∙ ap (λ (z : TypeTree). under (pos 3) (type_fault r z (item_of l))) (sym eu)
+    ∙ ap (λ (z : Layout). under (pos 3) (type_fault r u z)) (sym em))
     (f.nodes i ∙ ap (λ (z : TypeTree). range_nodes i ++ nodes_at z (item_of l) (3 + i)) (sym eu)
     ∙ ap (λ (z : Layout). range_nodes i ++ nodes_at u z (3 + i)) (sym em)
     ∙ ap (λ (z : ℕ). range_nodes i ++ nodes_at u m z) three)
@@ -68,14 +68,14 @@ row_answers r t u l m i j a b c q f eu em ej add h =
 
 pub map_answers : (r : Bool) (t : TypeTree) (l m : Layout) (i j : ℕ) (a b c : List ℕ)
     (q : Result (Unit {0}) BindFault) → MapFits r t l → m ≡ item_of l → j ≡ i + 3
-    → Adds a b (range_nodes i) → Answers b c (under 3 (fault_at_pair r t m)) (plan_at_pair t m j) q
+    → Adds a b (range_nodes i) → Answers b c (under (pos 3) (fault_at_pair r t m)) (plan_at_pair t m j) q
     → Answers a c (type_fault r t l) (nodes_at t l i) q
 map_answers r t l m i j a b c q f em ej add h =
     let three : 3 + i ≡ j = omega arith in
-    answers_after a b c (under 3 (fault_at_pair r t m)) (type_fault r t l) (range_nodes i)
+    answers_after a b c (under (pos 3) (fault_at_pair r t m)) (type_fault r t l) (range_nodes i)
     (plan_at_pair t m j)
     (nodes_at t l i) q add
-    (f.fault ∙ ap (λ (z : Layout). under 3 (fault_at_pair r t z)) (sym em))
+    (f.fault ∙ ap (λ (z : Layout). under (pos 3) (fault_at_pair r t z)) (sym em))
     (f.nodes i ∙ ap (λ (z : Layout). range_nodes i ++ plan_at_pair t z (3 + i)) (sym em)
     ∙ ap (λ (z : ℕ). range_nodes i ++ plan_at_pair t m z) three)
     h
@@ -128,12 +128,12 @@ pair_parts t v n p h =
 pub pair_fault_is : (r : Bool) (x y t : TypeTree) (l k u : Layout) (one two : ℕ) → x ≡ key_of t → y
     ≡ value_of t
     → l ≡ Struct (Field one k (Field two u NoField))
-    → fault_at_pair r t l ≡ or_later (under 1 (type_fault r x k)) (under 2 (type_fault r y u))
+    → fault_at_pair r t l ≡ or_later (under (pos 1) (type_fault r x k)) (under (pos 2) (type_fault r y u))
 pair_fault_is r x y t l k u one two ex ey e =
     ap (λ (z : Layout). fault_at_pair r t z) e
-    ∙ ap (λ (z : TypeTree). or_later (under 1 (type_fault r z k)) (under 2 (type_fault r (value_of t) u)))
+    ∙ ap (λ (z : TypeTree). or_later (under (pos 1) (type_fault r z k)) (under (pos 2) (type_fault r (value_of t) u)))
     (sym ex)
-    ∙ ap (λ (z : TypeTree). or_later (under 1 (type_fault r x k)) (under 2 (type_fault r z u))) (sym ey)
+    ∙ ap (λ (z : TypeTree). or_later (under (pos 1) (type_fault r x k)) (under (pos 2) (type_fault r z u))) (sym ey)
 
 pub pair_plan_is : (x y t : TypeTree) (l k u : Layout) (one two i j n : ℕ) → x ≡ key_of t → y ≡ value_of t
     → l ≡ Struct (Field one k (Field two u NoField)) → j ≡ i + 1 → n ≡ j + nodes k
@@ -149,34 +149,34 @@ pair_plan_is x y t l k u one two i j n ex ey e ej en =
     ∙ ap (λ (z : ℕ). Some i ∷ (nodes_at x k z ++ nodes_at y u n)) j1
 
 pub pair_tells : {s : Noted} {v : Version} {n : ℕ} (r : Bool) (t x : TypeTree) (l k : Layout) (f : BindFault)
-    → (p : PairParts s v n l) → x ≡ key_of t → k ≡ p.key → Tells (under 1 (type_fault r x k)) f
+    → (p : PairParts s v n l) → x ≡ key_of t → k ≡ p.key → Tells (under (pos 1) (type_fault r x k)) f
     → Tells (fault_at_pair r t l) f
 pair_tells r t x l k f p ex ek h =
     let e = pair_fault_is r (key_of t) (value_of t) t l p.key p.value p.one p.two refl refl p.is in
-    let later = under 2 (type_fault r (value_of t) p.value) in
-    let h2 = subst (λ (z : Layout). Tells (under 1 (type_fault r (key_of t) z)) f) ek
-    (subst (λ (z : TypeTree). Tells (under 1 (type_fault r z k)) f) ex h) in
-    tells_as (or_later (under 1 (type_fault r (key_of t) p.key)) later) (fault_at_pair r t l) f e
-    (tells_first (under 1 (type_fault r (key_of t) p.key)) later f h2)
+    let later = under (pos 2) (type_fault r (value_of t) p.value) in
+    let h2 = subst (λ (z : Layout). Tells (under (pos 1) (type_fault r (key_of t) z)) f) ek
+    (subst (λ (z : TypeTree). Tells (under (pos 1) (type_fault r z k)) f) ex h) in
+    tells_as (or_later (under (pos 1) (type_fault r (key_of t) p.key)) later) (fault_at_pair r t l) f e
+    (tells_first (under (pos 1) (type_fault r (key_of t) p.key)) later f h2)
 
 pub pair_answers : {s : Noted} {v : Version} {w : ℕ} (r : Bool) (t x y : TypeTree) (l k u : Layout)
     (i j n : ℕ)
     (a b c d : List ℕ) (q : Result (Unit {0}) BindFault) → (p : PairParts s v w l) → x ≡ key_of t → y
     ≡ value_of t
     → k ≡ p.key → u ≡ p.value → j ≡ i + 1 → n ≡ j + nodes k → Adds a b (Some i ∷ [])
-    → under 1 (type_fault r x k) ≡ None → Adds b c (nodes_at x k j)
-    → Answers c d (under 2 (type_fault r y u)) (nodes_at y u n) q
+    → under (pos 1) (type_fault r x k) ≡ None → Adds b c (nodes_at x k j)
+    → Answers c d (under (pos 2) (type_fault r y u)) (nodes_at y u n) q
     → Answers a d (fault_at_pair r t l) (plan_at_pair t l i) q
 pair_answers r t x y l k u i j n a b c d q p ex ey ek eu ej en f none g h =
     let is : l ≡ Struct (Field p.one k (Field p.two u NoField)) =
     p.is ∙ ap (λ (z : Layout). Struct (Field p.one z (Field p.two p.value NoField))) (sym ek)
     ∙ ap (λ (z : Layout). Struct (Field p.one k (Field p.two z NoField))) (sym eu) in
-    answers_after a b d (or_later (under 1 (type_fault r x k)) (under 2 (type_fault r y u)))
+    answers_after a b d (or_later (under (pos 1) (type_fault r x k)) (under (pos 2) (type_fault r y u)))
     (fault_at_pair r t l)
     (Some i ∷ []) (nodes_at x k j ++ nodes_at y u n) (plan_at_pair t l i) q f
     (pair_fault_is r x y t l k u p.one p.two ex ey is)
     (pair_plan_is x y t l k u p.one p.two i j n ex ey is ej en)
-    (answers_both b c d (under 1 (type_fault r x k)) (under 2 (type_fault r y u)) (nodes_at x k j)
+    (answers_both b c d (under (pos 1) (type_fault r x k)) (under (pos 2) (type_fault r y u)) (nodes_at x k j)
     (nodes_at y u n)
     q none g h)
 
@@ -185,18 +185,18 @@ pair_answers r t x y l k u i j n a b c d q p ex ey ek eu ej en f none g h =
 pub optional_answers : (r : Bool) (t : TypeTree) (l m : Layout) (i j k : ℕ) (a b c d : List ℕ)
     (q : Result (Unit {0}) BindFault) → (o : OptionalAt l) → m ≡ o.inner → j ≡ i + 1 → k ≡ i + 2
     → Adds a b (Some i ∷ []) → Adds b c (Some j ∷ [])
-    → Answers c d (under 2 (type_fault r t m)) (nodes_at t m k) q
+    → Answers c d (under (pos 2) (type_fault r t m)) (nodes_at t m k) q
     → Answers a d (field_fault Optional (λ (z : Layout). type_fault r t z) (Some l))
     (nodes_of_field Optional (λ (z : Layout) (n : ℕ). nodes_at t z n) 0 (Some l) i) q
 optional_answers r t l m i j k a b c d q o em ej ek f g h =
     let j1 : 1 + i ≡ j = omega arith in
     let k1 : 2 + i ≡ k = omega arith in
-    answers_after a c d (under 2 (type_fault r t m)) (field_fault Optional (λ (z : Layout). type_fault r t z)
+    answers_after a c d (under (pos 2) (type_fault r t m)) (field_fault Optional (λ (z : Layout). type_fault r t z)
     (Some l)) (Some i ∷ Some j ∷ []) (nodes_at t m k)
     (nodes_of_field Optional (λ (z : Layout) (n : ℕ). nodes_at t z n) 0 (Some l) i) q
     (adds_both a b c (Some i ∷ []) (Some j ∷ []) f g)
     (ap (λ (y : Layout). field_fault Optional (λ (z : Layout). type_fault r t z) (Some y)) o.is
-    ∙ ap (λ (y : Layout). under 2 (type_fault r t y)) (sym em))
+    ∙ ap (λ (y : Layout). under (pos 2) (type_fault r t y)) (sym em))
     (ap (λ (y : Layout). nodes_of_field Optional (λ (z : Layout) (n : ℕ). nodes_at t z n) 0 (Some y) i) o.is
     ∙ ap (λ (y : Layout). Some i ∷ Some (1 + i) ∷ nodes_at t y (2 + i)) (sym em)
     ∙ ap (λ (y : ℕ). Some i ∷ Some (1 + i) ∷ nodes_at t m y) k1

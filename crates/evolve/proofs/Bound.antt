@@ -1,5 +1,5 @@
 -- A type binds to a layout exactly where no node of it fails to.
-use Rattle.std.proofs.Common.{◌≡◌, ℕ, Bool, true, false, refl, ap, nat_abs, Option, Some, None}
+use Rattle.std.proofs.Common.{◌≡◌, ℤ, pos, Bool, true, false, refl, ap, nat_abs, Option, Some, None}
 use Rattle.idl_profile.specs.declared.kinds.Need.{Need}
 use Rattle.idl_profile.specs.declared.kinds.Need.TheVariants.{Plain, Required, Optional}
 use Rattle.idl_profile.specs.Types.{TypeTree, scalar, text, bytes, list_of, set_of, map_of, named, Named}
@@ -22,7 +22,7 @@ none_of_both : (x y : Option Unbound) → or_later x y ≡ None → (x ≡ None)
 none_of_both None y e = (refl, e)
 none_of_both (Some u) y e = absurd cc
 
-none_under : (id : ℕ) (x : Option Unbound) → under id x ≡ None → x ≡ None
+none_under : (id : ℤ) (x : Option Unbound) → under id x ≡ None → x ≡ None
 none_under id None e = refl
 none_under id (Some (type_changed ids)) e = absurd cc
 none_under id (Some (required_absent ids)) e = absurd cc
@@ -39,7 +39,7 @@ pair_clear : {A B : Type 0} (first second : Tree A B → Type 0) (f g : Tree A B
     → BindsPair first second l
     → pair_fault f g l ≡ None
 pair_clear first second f g (Struct (Field i k (Field j v NoField))) p q h =
-    neither (under 1 (f k)) (under 2 (g v)) (ap (under 1) (p k h.0)) (ap (under 2) (q v h.1))
+    neither (under (pos 1) (f k)) (under (pos 2) (g v)) (ap (under (pos 1)) (p k h.0)) (ap (under (pos 2)) (q v h.1))
 pair_clear first second f g l p q h = absurd h
 
 field_clear : {A B : Type 0} (n : Need) (binds : Tree A B → Type 0) (f : Tree A B → Option Unbound)
@@ -50,7 +50,7 @@ field_clear Plain binds f None p h = refl
 field_clear Optional binds f None p h = refl
 field_clear Plain binds f (Some l) p h = p l h
 field_clear Required binds f (Some l) p h = p l h
-field_clear Optional binds f (Some (tree.Optional w l)) p h = ap (under 2) (p l h)
+field_clear Optional binds f (Some (tree.Optional w l)) p h = ap (under (pos 2)) (p l h)
 field_clear Optional binds f (Some l) p h = absurd h
 
 mutual
@@ -58,10 +58,10 @@ mutual
   clear r (scalar s) (Leaf k a) h = ap unless h
   clear r text (ByteRange Text d c) h = refl
   clear r bytes (ByteRange Binary d c) h = refl
-  clear r (list_of x) (ItemRange AList d c l) h = ap (under 3) (clear r x l h)
-  clear r (set_of x) (ItemRange ASet d c l) h = ap (under 3) (clear r x l h)
+  clear r (list_of x) (ItemRange AList d c l) h = ap (under (pos 3)) (clear r x l h)
+  clear r (set_of x) (ItemRange ASet d c l) h = ap (under (pos 3)) (clear r x l h)
   clear {A} {B} r (map_of x y) (ItemRange AMap d c l) h =
-      ap (under 3) (pair_clear (λ (k : Tree A B). Binds r x k) (λ (v : Tree A B). Binds r y v)
+      ap (under (pos 3)) (pair_clear (λ (k : Tree A B). Binds r x k) (λ (v : Tree A B). Binds r y v)
       (λ (k : Tree A B). type_fault r x k) (λ (v : Tree A B). type_fault r y v) l
       (λ k. clear r x k) (λ v. clear r y v) h)
   clear r (named n) l h = named_clear r n l h
@@ -77,10 +77,10 @@ mutual
       → fields_fault r fs ls ≡ None
   fields_clear r no_fields ls h = refl
   fields_clear {A} {B} r (field i w n t d fs) ls h =
-      neither (under (nat_abs i)
+      neither (under i
       (field_fault n (λ (l : Tree A B). type_fault r t l) (field_tree ls (nat_abs i))))
       (fields_fault r fs ls)
-      (ap (under (nat_abs i)) (field_clear n (λ (l : Tree A B). Binds r t l)
+      (ap (under i) (field_clear n (λ (l : Tree A B). Binds r t l)
       (λ (l : Tree A B). type_fault r t l)
       (field_tree ls (nat_abs i)) (λ l. clear r t l) h.0))
       (fields_clear r fs ls h.1)
@@ -93,8 +93,8 @@ pair_binds : {A B : Type 0} (first second : Tree A B → Type 0) (f g : Tree A B
     → pair_fault f g l ≡ None
     → BindsPair first second l
 pair_binds first second f g (Struct (Field i k (Field j v NoField))) p q e =
-    let both = none_of_both (under 1 (f k)) (under 2 (g v)) e in
-    (p k (none_under 1 (f k) both.0), q v (none_under 2 (g v) both.1))
+    let both = none_of_both (under (pos 1) (f k)) (under (pos 2) (g v)) e in
+    (p k (none_under (pos 1) (f k) both.0), q v (none_under (pos 2) (g v) both.1))
 pair_binds first second f g l p q e = absurd cc
 
 field_binds : {A B : Type 0} (n : Need) (binds : Tree A B → Type 0) (f : Tree A B → Option Unbound)
@@ -105,7 +105,7 @@ field_binds Plain binds f None p e = tt
 field_binds Optional binds f None p e = tt
 field_binds Plain binds f (Some l) p e = p l e
 field_binds Required binds f (Some l) p e = p l e
-field_binds Optional binds f (Some (tree.Optional w l)) p e = p l (none_under 2 (f l) e)
+field_binds Optional binds f (Some (tree.Optional w l)) p e = p l (none_under (pos 2) (f l) e)
 field_binds Optional binds f (Some l) p e = absurd cc
 
 mutual
@@ -114,12 +114,12 @@ mutual
   binding r (scalar s) (Leaf k a) e = none_unless _ e
   binding r text (ByteRange Text d c) e = tt
   binding r bytes (ByteRange Binary d c) e = tt
-  binding r (list_of x) (ItemRange AList d c l) e = binding r x l (none_under 3 (type_fault r x l) e)
-  binding r (set_of x) (ItemRange ASet d c l) e = binding r x l (none_under 3 (type_fault r x l) e)
+  binding r (list_of x) (ItemRange AList d c l) e = binding r x l (none_under (pos 3) (type_fault r x l) e)
+  binding r (set_of x) (ItemRange ASet d c l) e = binding r x l (none_under (pos 3) (type_fault r x l) e)
   binding {A} {B} r (map_of x y) (ItemRange AMap d c l) e =
       pair_binds (λ (k : Tree A B). Binds r x k) (λ (v : Tree A B). Binds r y v)
       (λ (k : Tree A B). type_fault r x k) (λ (v : Tree A B). type_fault r y v) l
-      (λ k. binding r x k) (λ v. binding r y v) (none_under 3 _ e)
+      (λ k. binding r x k) (λ v. binding r y v) (none_under (pos 3) _ e)
   binding r (named n) l e = named_binding r n l e
   binding r t l e = absurd cc
 
@@ -134,9 +134,9 @@ mutual
   fields_binding r no_fields ls e = tt
   fields_binding {A} {B} r (field i w n t d fs) ls e =
       let own = field_fault n (λ (l : Tree A B). type_fault r t l) (field_tree ls (nat_abs i)) in
-      let both = none_of_both (under (nat_abs i) own) (fields_fault r fs ls) e in (
+      let both = none_of_both (under i own) (fields_fault r fs ls) e in (
         field_binds n (λ (l : Tree A B). Binds r t l) (λ (l : Tree A B). type_fault r t l)
             (field_tree ls (nat_abs i))
-            (λ l. binding r t l) (none_under (nat_abs i) own both.0),
+            (λ l. binding r t l) (none_under i own both.0),
         fields_binding r fs ls both.1,
       )

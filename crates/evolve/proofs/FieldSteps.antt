@@ -212,9 +212,9 @@ one_field id w Optional t d = omega arith
 
 pub record FieldHere (r : Bool) (t : TypeTree) (l : Layout) (node : ℕ) (old cur : List ℕ) (i : ℕ)
     (x : DefField) : Type 0 where
-  pub ok : (new : List ℕ) → under (nat_abs x.id) (fault_at r x (fields_in l)) ≡ None
+  pub ok : (new : List ℕ) → under x.id (fault_at r x (fields_in l)) ≡ None
       → Adds cur new (plan_at x (fields_in l) (1 + node)) → FieldsLeft r t l node old new (i + 1)
-  pub err : (f : BindFault) → Tells (under (nat_abs x.id) (fault_at r x (fields_in l))) f
+  pub err : (f : BindFault) → Tells (under x.id (fault_at r x (fields_in l))) f
       → Tells (type_fault r t l) f
 
 pub field_here : (r : Bool) (t : TypeTree) (l : Layout) (node : ℕ) (old cur : List ℕ) (i : ℕ) (x : DefField)
@@ -234,7 +234,7 @@ field_here r t l node old cur i x k e =
         let y : DefField = record { id = id; name = w; need = n; type = u; default = d } in
         let same : y ≡ x = cc in
         let later : field_list fs ≡ drop (suc i) (fields_of t) = cc in
-        let own = under (nat_abs id) (fault_at r y (fields_in l)) in
+        let own = under id (fault_at r y (fields_in l)) in
         let many = nodes_all (kinds_of_fields (field id w n u d no_fields)) in
         let inside = λ (m : Layout) (q : ℕ). nodes_at u m q in
         let plan : nodes_of_field n inside many (field_tree (fields_in l) (nat_abs id))

@@ -1,6 +1,7 @@
 -- Types that fit the kinds of nodes, and types that do not.
 use Rattle.std.proofs.Common.{◌≡◌, ◌⊎◌, inl, inr, ℕ, ◌+◌, Bool, true, false, List, [], ◌∷◌, ◌++◌, Option}
 use Rattle.std.proofs.Common.{Some, None, refl, sym, ap, ◌∙◌, subst}
+use Rattle.std.specs.Prelude.{pos}
 use Rattle.idl_profile.specs.declared.kinds.TypeKind.{TypeKind}
 use Rattle.idl_profile.specs.declared.kinds.TypeKind.TheVariants as types
 use Rattle.idl_profile.specs.Types.{TypeTree, scalar, text, bytes, list_of, set_of, map_of, named, enum_of}
@@ -344,7 +345,7 @@ struct_is t e = type_of_kind t types.Struct e
 
 pub record RowFits (r : Bool) (t : TypeTree) (l : Layout) : Type 0 where
   pub holder : IsHolder l
-  pub fault : type_fault r t l ≡ under 3 (type_fault r (element_of t) (item_of l))
+  pub fault : type_fault r t l ≡ under (pos 3) (type_fault r (element_of t) (item_of l))
   pub nodes : (i : ℕ) → nodes_at t l i ≡ range_nodes i ++ nodes_at (element_of t) (item_of l) (3 + i)
 
 list_row : (r : Bool) (x : TypeTree) (l : Layout) → HolderAt AList l → RowFits r (list_of x) l
@@ -379,7 +380,7 @@ row_fits r t l (inr h) e =
 pub record MapFits (r : Bool) (t : TypeTree) (l : Layout) : Type 0 where
   pub holder : IsHolder l
   pub map : IsMap l
-  pub fault : type_fault r t l ≡ under 3 (fault_at_pair r t (item_of l))
+  pub fault : type_fault r t l ≡ under (pos 3) (fault_at_pair r t (item_of l))
   pub nodes : (i : ℕ) → nodes_at t l i ≡ range_nodes i ++ plan_at_pair t (item_of l) (3 + i)
 
 map_row : (r : Bool) (x y : TypeTree) (l : Layout) → HolderAt AMap l → MapFits r (map_of x y) l

@@ -71,10 +71,10 @@ with_i64 = named (struct_of (codes "R") (field (pos 1) (codes "a") Plain (scalar
 abbrev with_i16 : TypeTree
 with_i16 = named (struct_of (codes "R") (field (pos 1) (codes "a") Plain (scalar i16) without no_fields))
 
-row_required : bind_fault first_form with_required ≡ Some (required_absent (3 ∷ []))
+row_required : bind_fault first_form with_required ≡ Some (required_absent (pos 3 ∷ []))
 row_required = refl
 
-row_first_form_i64 : bind_fault first_form with_i64 ≡ Some (type_changed (1 ∷ []))
+row_first_form_i64 : bind_fault first_form with_i64 ≡ Some (type_changed (pos 1 ∷ []))
 row_first_form_i64 = refl
 
 -- ---- wider integers
@@ -86,10 +86,10 @@ row_wider_a : at (placed 0 (field_step (codes "a")) ∷ []) with_i64
     (proj with_i64 (two_numbers (pos 3) (pos 4))) ≡ Some (num (pos 3))
 row_wider_a = refl
 
-row_narrower : bind_fault second_form with_i16 ≡ Some (type_changed (1 ∷ []))
+row_narrower : bind_fault second_form with_i16 ≡ Some (type_changed (pos 1 ∷ []))
 row_narrower = refl
 
-row_strict : bind_fault strict_form with_i64 ≡ Some (type_changed (1 ∷ []))
+row_strict : bind_fault strict_form with_i64 ≡ Some (type_changed (pos 1 ∷ []))
 row_strict = refl
 
 -- struct M {1: map<i64,string> m}
@@ -110,7 +110,7 @@ row_wider_keys : bind_fault (described Version2 true (map_of_texts 1 2 (FromBase
 row_wider_keys = refl
 
 row_strict_keys : bind_fault (described Version2 false (map_of_texts 1 2 (FromBase (pos 1) 4) 3 1))
-    wider_keys ≡ Some (type_changed (1 ∷ 3 ∷ 1 ∷ []))
+    wider_keys ≡ Some (type_changed (pos 1 ∷ pos 3 ∷ pos 1 ∷ []))
 row_strict_keys = refl
 
 row_key : at (placed 0 (field_step (codes "m")) ∷ placed 2 (key_step (int_key (pos 5))) ∷ []) wider_keys
@@ -161,16 +161,16 @@ with_items n t = named (struct_of (codes "H")
     no_fields))
 
 row_plain_for_optional : bind_fault optional_layout (with_items Plain (scalar i32))
-    ≡ Some (type_changed (1 ∷ 3 ∷ 1 ∷ []))
+    ≡ Some (type_changed (pos 1 ∷ pos 3 ∷ pos 1 ∷ []))
 row_plain_for_optional = refl
 
 row_narrower_present : bind_fault optional_layout (with_items Optional (scalar i16))
-    ≡ Some (type_changed (1 ∷ 3 ∷ 1 ∷ 2 ∷ []))
+    ≡ Some (type_changed (pos 1 ∷ pos 3 ∷ pos 1 ∷ pos 2 ∷ []))
 row_narrower_present = refl
 
 row_optional_for_plain : bind_fault second_form
     (named (struct_of (codes "R") (field (pos 1) (codes "a") Optional (scalar i32) without no_fields)))
-    ≡ Some (type_changed (1 ∷ []))
+    ≡ Some (type_changed (pos 1 ∷ []))
 row_optional_for_plain = refl
 
 -- an enum is an i32, and no wider than one

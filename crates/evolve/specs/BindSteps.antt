@@ -25,8 +25,8 @@ Adds old new ns = map file_node_of new ≡ map file_node_of old ++ ns
 
 -- the fault is told, its ids from the last to the first
 abbrev pub Tells : Option Unbound → BindFault → Type 0
-Tells u (TypeChanged ids) = u ≡ Some (type_changed (map nat_abs (reverse ids.items)))
-Tells u (RequiredAbsent ids) = u ≡ Some (required_absent (map nat_abs (reverse ids.items)))
+Tells u (TypeChanged ids) = u ≡ Some (type_changed (reverse ids.items))
+Tells u (RequiredAbsent ids) = u ≡ Some (required_absent (reverse ids.items))
 Tells u NoMemory = Unit {0}
 
 -- there is no fault, and the nodes are added; or the fault is told

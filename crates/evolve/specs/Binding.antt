@@ -1,5 +1,5 @@
 -- Which layouts a definition binds to, and the first of its nodes that keeps it from binding.
-use Rattle.std.specs.Prelude.{◌≡◌, ℕ, List, [], ◌∷◌, Bool, true, false, nat_eq, nat_le, nat_abs, Option, Some}
+use Rattle.std.specs.Prelude.{◌≡◌, ℤ, pos, List, [], ◌∷◌, Bool, true, false, nat_eq, nat_le, nat_abs, Option, Some}
 use Rattle.std.specs.Prelude.{None}
 use Rattle.idl_profile.specs.declared.kinds.Need.{Need}
 use Rattle.idl_profile.specs.declared.kinds.Need.TheVariants.{Required, Optional}
@@ -71,12 +71,12 @@ Compatible d root = Binds d.relaxed root d.tree
 -- the two of a pair, 2 to the value of an optional
 pub data Unbound : Type 0 where
   -- its kind is another
-  type_changed : List ℕ → Unbound
+  type_changed : List ℤ → Unbound
   -- it is a required field that the layout's struct lacks
-  required_absent : List ℕ → Unbound
+  required_absent : List ℤ → Unbound
 
 -- the same, seen from one field above
-abbrev pub under : ℕ → Option Unbound → Option Unbound
+abbrev pub under : ℤ → Option Unbound → Option Unbound
 under id None = None
 under id (Some (type_changed ids)) = Some (type_changed (id ∷ ids))
 under id (Some (required_absent ids)) = Some (required_absent (id ∷ ids))
@@ -95,14 +95,14 @@ abbrev pub field_fault : {A B : Type 0} → Need → (Tree A B → Option Unboun
     → Option Unbound
 field_fault Required fault None = Some (required_absent [])
 field_fault need fault None = None
-field_fault Optional fault (Some (tree.Optional w l)) = under 2 (fault l)
+field_fault Optional fault (Some (tree.Optional w l)) = under (pos 2) (fault l)
 field_fault Optional fault (Some l) = Some (type_changed [])
 field_fault need fault (Some l) = fault l
 
 abbrev pub pair_fault : {A B : Type 0} → (Tree A B → Option Unbound) → (Tree A B → Option Unbound) → Tree A B
     → Option Unbound
 pair_fault first second (Struct (Field i k (Field j v NoField))) =
-    or_later (under 1 (first k)) (under 2 (second v))
+    or_later (under (pos 1) (first k)) (under (pos 2) (second v))
 pair_fault first second l = Some (type_changed [])
 
 -- the first node of the type, in preorder, that does not bind
@@ -111,10 +111,10 @@ abbrev mutual
   type_fault relaxed (scalar s) (Leaf k a) = unless (stands_for relaxed (leaf_kind s) k)
   type_fault relaxed text (ByteRange Text d c) = None
   type_fault relaxed bytes (ByteRange Binary d c) = None
-  type_fault relaxed (list_of x) (ItemRange AList d c l) = under 3 (type_fault relaxed x l)
-  type_fault relaxed (set_of x) (ItemRange ASet d c l) = under 3 (type_fault relaxed x l)
+  type_fault relaxed (list_of x) (ItemRange AList d c l) = under (pos 3) (type_fault relaxed x l)
+  type_fault relaxed (set_of x) (ItemRange ASet d c l) = under (pos 3) (type_fault relaxed x l)
   type_fault relaxed (map_of x y) (ItemRange AMap d c l) =
-      under 3 (pair_fault (λ k. type_fault relaxed x k) (λ v. type_fault relaxed y v) l)
+      under (pos 3) (pair_fault (λ k. type_fault relaxed x k) (λ v. type_fault relaxed y v) l)
   type_fault relaxed (named n) l = named_fault relaxed n l
   type_fault relaxed t l = Some (type_changed [])
 
@@ -126,7 +126,7 @@ abbrev mutual
   pub fields_fault : {A B : Type 0} → Bool → Fields → Trees A B → Option Unbound
   fields_fault relaxed no_fields ls = None
   fields_fault relaxed (field i w n t d fs) ls =
-      or_later (under (nat_abs i) (field_fault n (λ l. type_fault relaxed t l) (field_tree ls (nat_abs i))))
+      or_later (under i (field_fault n (λ l. type_fault relaxed t l) (field_tree ls (nat_abs i))))
       (fields_fault relaxed fs ls)
 
 -- the first node of a definition with this root that does not bind to the layout

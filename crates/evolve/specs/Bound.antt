@@ -1,5 +1,5 @@
 -- What binding answers.
-use Rattle.std.specs.Prelude.{◌≡◌, ℕ, List, map, if◌then◌else◌, nat_eq, nat_abs, Option, Some, None, Result}
+use Rattle.std.specs.Prelude.{◌≡◌, ℕ, List, map, if◌then◌else◌, nat_eq, Option, Some, None, Result}
 use Rattle.std.specs.Prelude.{Ok, Err}
 use Rattle.idl_profile.specs.Types.{TypeTree}
 use Rattle.frozen_model.specs.Layouts.{Described}
@@ -21,6 +21,6 @@ plan_nodes p = map file_node_of p.nodes.items
 -- its nodes that does not bind is this; want of memory has no cause
 abbrev pub IsBound : Described → TypeTree → Result Plan BindFault → Type 0
 IsBound d root (Ok p) = Compatible d root × (plan_nodes p ≡ nodes_at root d.tree 0)
-IsBound d root (Err (TypeChanged ids)) = bind_fault d root ≡ Some (type_changed (map nat_abs ids.items))
-IsBound d root (Err (RequiredAbsent ids)) = bind_fault d root ≡ Some (required_absent (map nat_abs ids.items))
+IsBound d root (Err (TypeChanged ids)) = bind_fault d root ≡ Some (type_changed ids.items)
+IsBound d root (Err (RequiredAbsent ids)) = bind_fault d root ≡ Some (required_absent ids.items)
 IsBound d root (Err NoMemory) = Unit {0}

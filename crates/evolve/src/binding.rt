@@ -61,7 +61,7 @@ fn fits(relaxed: bool, own: TypeKind, stored: Kind) -> bool
 // The answer for a part, seen from one field above.
 fn under(id: i16, below: Result<(), BindFault>) -> Result<(), BindFault>
     ensures { (old new : List ℕ) (u : Option Unbound) (ns : List (Option ℕ)) → Answers old new u ns below
-        → Answers old new (seen_from (nat_abs id) u) ns result }
+        → Answers old new (seen_from id u) ns result }
 {
     match below {
         Ok(()) => Ok(()),

@@ -4,13 +4,15 @@ use Rattle.std.proofs.Common.{ap, sym, ◌∙◌, subst, append_assoc}
 use Rattle.std.proofs.Math.Logic.{∥∥₁_map}
 use Rattle.frozen_model.specs.BitLaws.{IsBytes}
 use Rattle.frozen_model.specs.Values.{Value}
-use Rattle.frozen_model.specs.Layouts.{Layout, Described}
+use Rattle.frozen_model.specs.Layouts.{Layout, Described, IsDescribed}
 use Rattle.frozen_model.specs.Packing.{Packs}
 use Rattle.frozen_model.specs.Holding.{Holds}
 use Rattle.frozen_model.specs.Files.{File, magic, four_bytes, frozen}
 use Rattle.frozen_laws.specs.Laws.{IsContent}
 use Rattle.frozen_laws.proofs.Packed.{packed_once, frozen_is}
+use Rattle.layout_schema.specs.Laws.{SchemasAreShort}
 use Rattle.file_check.specs.Held.{PacksValue, HoldsValue}
+use Rattle.file_check.specs.Written.{written}
 
 -- what lies past the end of a list counts as 0
 pub bytes_within : (xs : List ℕ) → ((k : ℕ) → k < length xs → slice_index xs k < 256) → IsBytes xs
@@ -40,3 +42,8 @@ composed_file Spells write d v s content out spelled es short small c e =
 -- the packing of a value within the limit of cells is one of a value
 pub held_packs : (l : Layout) (bs : List ℕ) → ∥ HoldsValue l bs ∥₁ → ∥ PacksValue l bs ∥₁
 held_packs l bs h = ∥∥₁_map h (λ (p : HoldsValue l bs). (p.0, p.1.holds, p.1.packed))
+
+-- a header has room for the length of a schema that is written
+pub small_schema : SchemasAreShort → (d : Described) (s : List ℕ) → IsDescribed d → s ≡ written d
+    → length s < 2 ^ 32
+small_schema short d s is e = omega (arith, ap length e, short d is)

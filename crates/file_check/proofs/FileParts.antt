@@ -1,5 +1,5 @@
 -- A file by its parts.
-use Rattle.std.proofs.Common.{◌≡◌, ℕ, ◌+◌, ◌-◌, ◌≤◌, ◌<◌, List, ◌++◌, true, length, arith}
+use Rattle.std.proofs.Common.{◌≡◌, ℕ, ◌+◌, ◌-◌, ◌≤◌, ◌<◌, List, [], ◌∷◌, ◌++◌, zero, suc, true, length, arith}
 use Rattle.std.proofs.Common.{refl, ap, sym, ◌∙◌, subst, nat_le, take, drop, length-append, length-take}
 use Rattle.std.proofs.Common.{length-drop}
 use Rattle.std.proofs.lemmas.List.{take-append-drop, drop-drop, get_or-drop}
@@ -99,3 +99,13 @@ bytes_after n b h k = subst (λ x. x < 256) (sym (get_or-drop n b k 0)) (h (n + 
 
 pub content_bytes : (b : List ℕ) → IsBytes b → IsBytes (content_of b)
 content_bytes b h = bytes_after (schema_length b) (drop 8 b) (bytes_after 8 b h)
+
+-- and so is the schema
+bytes_before : (n : ℕ) (b : List ℕ) → IsBytes b → IsBytes (take n b)
+bytes_before zero b h k = omega arith
+bytes_before (suc n) [] h k = omega arith
+bytes_before (suc n) (x ∷ b) h zero = h 0
+bytes_before (suc n) (x ∷ b) h (suc k) = bytes_before n b (λ j. h (suc j)) k
+
+pub schema_is_bytes : (b : List ℕ) → IsBytes b → IsBytes (schema_bytes b)
+schema_is_bytes b h = bytes_before (schema_length b) (drop 8 b) (bytes_after 8 b h)

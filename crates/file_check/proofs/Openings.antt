@@ -8,7 +8,7 @@ use Rattle.frozen_model.specs.Layouts.{Described, IsDescribed}
 use Rattle.frozen_model.specs.Walk.{Fault, Short, open_content}
 use Rattle.frozen_model.specs.Files.{FileFault, NotFrozen, BadSchema, BadContent, File, schema_length}
 use Rattle.frozen_model.specs.Files.{schema_bytes, content_of, demand, answered, open_file}
-use Rattle.frozen_laws.specs.Laws.{IsContent}
+use Rattle.frozen_laws.specs.Laws.{IsContent, PackingIsInjective}
 use Rattle.content_check.specs.Opened.{IsOpened}
 use Rattle.frozen_laws.proofs.Opening.{content_complete}
 use Rattle.compact_wire.specs.declared.fault.WireFault.{WireFault}
@@ -29,13 +29,13 @@ use Rattle.file_check.proofs.FileParts.{IsFile, file_is, is_file, content_bytes}
 
 -- ---- a schema is read as one answer
 
-abbrev an_ok : (X E : Type 0) → X → Result X E
+abbrev pub an_ok : (X E : Type 0) → X → Result X E
 an_ok X E x = Ok x
 
 abbrev an_err : (X E : Type 0) → E → Result X E
 an_err X E e = Err e
 
-same_ok : {X E : Type 0} (x y : X) → an_ok X E x ≡ an_ok X E y → x ≡ y
+pub same_ok : {X E : Type 0} (x y : X) → an_ok X E x ≡ an_ok X E y → x ≡ y
 same_ok x y e = cc
 
 same_err : {X E : Type 0} (x y : E) → an_err X E x ≡ an_err X E y → x ≡ y
@@ -87,7 +87,7 @@ read_once s (Err f) (Err g) x y = ap (λ h. Err h) (one_fault s f g (cause s f x
 
 -- ---- the steps of opening
 
-abbrev answer : Result Described SchemaFault → List ℕ → Result (Described × Value) (FileFault SchemaFault)
+abbrev pub answer : Result Described SchemaFault → List ℕ → Result (Described × Value) (FileFault SchemaFault)
 answer r b = open_file (λ s. r) b
 
 -- of the content, under a layout
@@ -108,18 +108,18 @@ second_false : (x y : Bool) → x ≡ true → (x && y) ≡ false → y ≡ fals
 second_false true y h k = k
 second_false false y h k = absurd cc
 
-no_header : (r : Result Described SchemaFault) (b : List ℕ) → has_header b ≡ false
+pub no_header : (r : Result Described SchemaFault) (b : List ℕ) → has_header b ≡ false
     → answer r b ≡ Err NotFrozen
 no_header r b h = fails (has_header b) NotFrozen _ h
 
-no_schema : (r : Result Described SchemaFault) (b : List ℕ) → has_header b ≡ true → has_schema b ≡ false
+pub no_schema : (r : Result Described SchemaFault) (b : List ℕ) → has_header b ≡ true → has_schema b ≡ false
     → answer r b ≡ Err (BadContent Short)
 no_schema r b h k =
     passes (has_header b) NotFrozen _ h
     ∙ fails (nat_le (schema_length b) (length b - 8)) (BadContent Short) _
     (second_false (has_header b) (nat_le (schema_length b) (length b - 8)) h k)
 
-with_schema : (r : Result Described SchemaFault) (b : List ℕ) → has_schema b ≡ true
+pub with_schema : (r : Result Described SchemaFault) (b : List ℕ) → has_schema b ≡ true
     → answer r b ≡ answered r BadSchema (content_answer b)
 with_schema r b h =
     let p = and_parts (has_header b) (nat_le (schema_length b) (length b - 8)) h in
@@ -137,7 +137,7 @@ schema_unread q r b h = go (has_header b) refl
 
 -- ---- the bytes are opened as one answer
 
-opened_once : (b : List ℕ) (q r : Result (Described × Value) (FileFault SchemaFault)) → IsOpening b q
+pub opened_once : (b : List ℕ) (q r : Result (Described × Value) (FileFault SchemaFault)) → IsOpening b q
     → IsOpening b r → q ≡ r
 opened_once b q r x y = go (has_schema b) refl
   where
@@ -156,13 +156,13 @@ first_once b f g x y = x.2 ∙ ap fault_of (same_err x.0 y.0 (opened_once b (Err
 abbrev pub SaidFile : List ℕ → Described → Value → Type 0
 SaidFile b d v = IsFile (λ s e. IsSaid s (Ok e)) b d v
 
-said_file : SchemasAreExact → (b : List ℕ) (d : Described) (v : Value) → File SchemaBytes b d v
+pub said_file : SchemasAreExact → (b : List ℕ) (d : Described) (v : Value) → File SchemaBytes b d v
     → SaidFile b d v
 said_file exact b d v h =
     let p = file_is b d v h in
     record { schema = p.schema; spelled = (exact (schema_bytes b) d).0 p.spelled; content = p.content }
 
-file_said : SchemasAreExact → (b : List ℕ) (d : Described) (v : Value) → SaidFile b d v
+pub file_said : SchemasAreExact → (b : List ℕ) (d : Described) (v : Value) → SaidFile b d v
     → File SchemaBytes b d v
 file_said exact b d v h =
     is_file b d v
@@ -274,7 +274,7 @@ unparted exact b (fault.Dirty n) h = absurd h
 unparted exact b (fault.BadText n) h = absurd h
 unparted exact b (fault.KeyOrder n) h = absurd h
 unparted exact b fault.TooManyCells h = absurd h
-unparted exact b (fault.OutOfRange n) h = absurd h
+unparted exact b (fault.Range n) h = absurd h
 unparted exact b fault.NoMemory h = absurd h
 
 -- where the schema is refused
@@ -309,16 +309,15 @@ opens exact b s cs e n h es ec x i =
 
 -- ---- a file is that of one value in one layout
 
-pub one_file : SchemaIsOfOne → (b : List ℕ) (d e : Described) (v u : Value) → IsBytes b
+pub one_file : SchemaIsOfOne → PackingIsInjective → (b : List ℕ) (d e : Described) (v u : Value)
     → File SchemaBytes b d v → File SchemaBytes b e u → (d ≡ e) × (v ≡ u)
-one_file one b d e v u small h k =
+one_file one injective b d e v u h k =
     let p = file_is b d v h in
     let q = file_is b e u k in
     let same : d ≡ e = one (schema_bytes b) d e p.spelled q.spelled in
-    let bytes = content_bytes b small in
-    let is = p.spelled.within.layout in
     let content : IsContent d.tree u (content_of b) =
-    subst (λ (c : Described). IsContent c.tree u (content_of b)) (sym same) q.content in
-    let first = content_complete d.version d.tree v (content_of b) is bytes p.content in
-    let second = content_complete d.version d.tree u (content_of b) is bytes content in
-    (same, same_ok v u (sym first ∙ second))
+    subst (λ (c : Described). IsContent c.tree u (content_of b)) (sym same) q.content in (
+      same,
+      injective d.version d.tree v u p.spelled.within.layout.coded p.content.holds content.holds
+          (sym p.content.packed ∙ content.packed),
+    )

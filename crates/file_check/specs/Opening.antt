@@ -40,7 +40,7 @@ fault_in (Dirty b) = fault.Dirty b
 fault_in (BadText b) = fault.BadText b
 fault_in (KeyOrder b) = fault.KeyOrder b
 fault_in TooManyCells = fault.TooManyCells
-fault_in (OutOfRange b) = fault.OutOfRange b
+fault_in (OutOfRange b) = fault.Range b
 
 -- the fault of the code that stands for a fault of the definition
 abbrev pub fault_of : FileFault SchemaFault → OpenFault

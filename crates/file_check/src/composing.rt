@@ -12,7 +12,7 @@ ghost use Rattle.file_check.specs.Held.{PacksValue};
 ghost use Rattle.file_check.specs.Written.{written};
 
 use crate::front::header;
-use layout_schema::{write_schema, written_schema_is_schema};
+use layout_schema::{schemas_are_short, write_schema, written_schema_is_schema};
 use layout_tree::{Layouts, layouts_are_described};
 use std::alloc::{AllocError, Global};
 
@@ -27,10 +27,8 @@ pub fn compose(alloc: Global, layouts: &Layouts, content: Vec<u8>) -> Result<Vec
 {
     layouts_are_described(layouts);
     written_schema_is_schema();
+    schemas_are_short();
     let schema = write_schema(alloc, layouts)?;
-    if schema.len() > u32::MAX as usize {
-        return Err(AllocError);
-    }
     let mut file = Vec::new(alloc);
     file.extend_from_slice(&header(schema.len() as u32))?;
     file.extend_from_slice(&schema)?;

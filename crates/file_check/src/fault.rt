@@ -36,7 +36,7 @@ pub enum OpenFault {
     TooManyCells,
     /// The number at this bit is outside the range of its kind, which only version 2 can have.
     #[error("the number at bit {0} is out of range")]
-    OutOfRange(u64),
+    Range(u64),
     #[error("out of memory")]
     NoMemory,
 }

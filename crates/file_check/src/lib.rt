@@ -12,6 +12,6 @@ mod parts;
 pub use composing::compose;
 pub use fault::OpenFault;
 pub use front::header;
-pub use laws::{files_are_unique, opened_composes};
+pub use laws::{files_are_unique, opened_composes, opening_is_exact};
 pub use open::open_frozen;
 pub use opened::Opened;

@@ -38,7 +38,7 @@ fn content_fault(fault: ContentFault) -> OpenFault
         ContentFault::BadText(byte) => OpenFault::BadText(byte),
         ContentFault::KeyOrder(bit) => OpenFault::KeyOrder(bit),
         ContentFault::TooManyCells => OpenFault::TooManyCells,
-        ContentFault::OutOfRange(bit) => OpenFault::OutOfRange(bit),
+        ContentFault::OutOfRange(bit) => OpenFault::Range(bit),
     }
 }
 

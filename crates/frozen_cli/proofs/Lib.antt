@@ -1,3 +1,4 @@
+pub mod InMemory
 pub mod Clauses
 pub mod Dotted
 pub mod Joins

@@ -1,11 +1,13 @@
--- The law of what was frozen.
-use Rattle.std.specs.Prelude.{◌≡◌, ℕ, List, Some, Result, Ok, Err}
+-- The laws of what was frozen, and of runs in memory.
+use Rattle.std.specs.Prelude.{◌≡◌, ◌⊎◌, ◌<◌, ◌≤◌, ℕ, List, length, Option, Some, IfSome, Result, Ok, Err}
 use Rattle.fz_base.specs.Files.{Held}
 use Rattle.idl_profile.specs.Types.{Named, root_of}
 use Rattle.frozen_model.specs.Values.{Value}
 use Rattle.compact_wire.specs.Canon.{canon}
 use Rattle.compact_codec.specs.Wire.{wire}
 use Rattle.frozen_cli.specs.declared.refusal.Refusal.{Refusal}
+use Rattle.frozen_cli.specs.Changes.{Seen, Sent}
+use Rattle.frozen_cli.specs.Run.{Replies}
 use Rattle.frozen_cli.specs.Refusal.{IsUnreadable}
 use Rattle.frozen_cli.specs.Reply.{FormGives, FreezeGives, DefinitionIn, ValueIn, thaw}
 
@@ -29,3 +31,12 @@ pub record ThawsAgain (held : Held) (def value file : List ℕ) : Type 0 where
 abbrev pub FrozenThaws : Type 0
 FrozenThaws = (held : Held) (def value file bytes : List ℕ) → FreezeGives held def value (Ok bytes)
     → held file ≡ Some bytes → ThawsAgain held def value file
+
+-- a sink that takes so many bytes in all has not taken as many
+abbrev pub HasRoom : Option (List ℕ) → ℕ → Type 0
+HasRoom written room = IfSome written (λ bytes. length bytes < room)
+
+-- the run ended with the reply, at its status from 0 to 4, or there was not enough memory
+abbrev pub IsReplied : List (List ℕ) → Seen → Sent → Sent → ℕ → Type 0
+IsReplied words files out err status =
+    IfSome files.held (λ held. (status ≡ 6) ⊎ ((status ≤ 4) × Replies words held status out err))

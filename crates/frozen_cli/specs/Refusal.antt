@@ -1,5 +1,5 @@
 -- Why a command is refused: the exit status and the line of each refusal.
-use Rattle.std.specs.Prelude.{◌⊎◌, ℕ, Bool, true, false, List, [], ◌∷◌, ◌++◌, codes, ⊤, string_bytes}
+use Rattle.std.specs.Prelude.{◌⊎◌, ℕ, ℤ, Bool, true, false, List, [], ◌∷◌, ◌++◌, codes, ⊤, string_bytes}
 use Rattle.std.specs.Fmt.{decimal, signed_decimal}
 use Rattle.idl_parse.specs.declared.fault.DefFault.{DefFault}
 use Rattle.idl_parse.specs.declared.fault.DefFault.TheVariants as faults
@@ -86,7 +86,7 @@ open_text (opening.Dirty bit) = codes "6 bit " ++ decimal bit
 open_text (opening.BadText byte) = codes "7 byte " ++ decimal byte
 open_text (opening.KeyOrder bit) = codes "8 bit " ++ decimal bit
 open_text opening.TooManyCells = codes "9"
-open_text (opening.OutOfRange bit) = codes "10 bit " ++ decimal bit
+open_text (opening.Range bit) = codes "10 bit " ++ decimal bit
 open_text opening.NoMemory = []
 
 -- the number of a path's fault, and the byte where its step begins
@@ -102,11 +102,11 @@ abbrev pub dot_if : Bool → List ℕ
 dot_if false = []
 dot_if true = 46 ∷ []
 
-abbrev pub dotted : Bool → List ℕ → List ℕ
+abbrev pub dotted : Bool → List ℤ → List ℕ
 dotted later [] = []
-dotted later (n ∷ ns) = dot_if later ++ (decimal n ++ dotted true ns)
+dotted later (z ∷ zs) = dot_if later ++ (signed_decimal z ++ dotted true zs)
 
-abbrev pub ids_text : List ℕ → List ℕ
+abbrev pub ids_text : List ℤ → List ℕ
 ids_text ids = dotted false ids
 
 -- the exit status

@@ -1,5 +1,5 @@
 // Ids as a text.
-ghost use Rattle.std.specs.Prelude.{◌≡◌, ◌++◌, IfOk, OnOk, map, nat_abs, string_bytes};
+ghost use Rattle.std.specs.Prelude.{◌≡◌, ◌++◌, IfOk, OnOk, string_bytes};
 ghost use Rattle.frozen_cli.specs.Refusal.{dot_if, ids_text as text_of_ids};
 
 use itoa::Buffer;
@@ -18,13 +18,13 @@ fn push_dot(out: &mut String, later: bool) -> Result<(), AllocError>
 
 /// Ids in decimal digits, with a dot between two.
 pub fn ids_text(alloc: Global, ids: &[i16]) -> Result<String, AllocError>
-    ensures { IfOk result (λ text. string_bytes text ≡ text_of_ids (map nat_abs ids.now)) }
+    ensures { IfOk result (λ text. string_bytes text ≡ text_of_ids ids.now) }
 {
     let mut out = String::new(alloc);
     let mut buffer = Buffer::new();
     for i in 0..ids.len() {
         push_dot(&mut out, i > 0)?;
-        out.push_str(buffer.format(ids[i].unsigned_abs()))?;
+        out.push_str(buffer.format(ids[i]))?;
     }
     Ok(out)
 }

@@ -212,7 +212,7 @@ impl fmt::Display for OpenText<'_> {
             OpenFault::BadText(byte) => write!(f, "7 byte {byte}"),
             OpenFault::KeyOrder(bit) => write!(f, "8 bit {bit}"),
             OpenFault::TooManyCells => write!(f, "9"),
-            OpenFault::OutOfRange(bit) => write!(f, "10 bit {bit}"),
+            OpenFault::Range(bit) => write!(f, "10 bit {bit}"),
             OpenFault::NoMemory => Ok(()),
         }
     }

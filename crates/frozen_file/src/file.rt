@@ -17,7 +17,7 @@ use block_region::Region;
 use file_check::header;
 use freezer::{freeze_into, measure_alone};
 use fz_base::Steps;
-use layout_schema::{write_schema, written_schema_is_schema};
+use layout_schema::{schemas_are_short, write_schema, written_schema_is_schema};
 use layout_tree::Layouts;
 use measure_pass::{Measured, measure_over};
 use std::alloc::{AllocError, Global};
@@ -47,7 +47,8 @@ fn measure_again<L: Ledger>(
 {
     let mut steps = Steps::<L>::new(blank);
     let layouts = Layouts::blank(alloc, from)?;
-    measure_over(alloc, layouts, v, &mut steps)
+    let measured = measure_over(alloc, layouts, v, &mut steps)?;
+    Ok(measured)
 }
 
 // Writes bytes into the next block of a region, which has room for them.
@@ -89,8 +90,7 @@ fn file_with(
     Ok(region.finish())
 }
 
-// The file of a value in its least layout, of version 2 and relaxed, as it was measured. A schema of 2^32
-// bytes or more, which no layout within the limits has, is answered by want of memory.
+// The file of a value in its least layout, of version 2 and relaxed, as it was measured.
 fn least_file(alloc: Global, measured: Measured, v: TreeRef<'_>) -> Result<Vec<u8>, AllocError>
     requires least { Least (layout_of measured.layouts) (value_of_ref v) }
     requires version { (layout_of measured.layouts).version ≡ Version2 }
@@ -103,21 +103,17 @@ fn least_file(alloc: Global, measured: Measured, v: TreeRef<'_>) -> Result<Vec<u
         IfOk result (λ out. IsLeastFile (kinds l) (value_of_ref v.entry) out.items) }
 {
     written_schema_is_schema();
+    schemas_are_short();
     let Measured {
         layouts,
         content_len,
     } = measured;
     let schema = write_schema(alloc, &layouts)?;
-    // the header has four bytes for the length of the schema
-    if schema.len() > u32::MAX as usize {
-        return Err(AllocError);
-    }
     file_with(alloc, &schema, &layouts, v, content_len as usize)
 }
 
 /// The frozen file of a value of a definition's root in its least layout of version 2, as docs/FORMAT.md
-/// tells it. A schema of 2^32 bytes or more, which no layout within the limits has, is answered by want of
-/// memory.
+/// tells it.
 pub fn frozen_file(alloc: Global, def: &Definition, v: TreeRef<'_>) -> Result<Vec<u8>, AllocError>
     requires form { Of (kinds_of (root_of (definition_of def.now))) (value_of_ref v) }
     requires few { cells (kinds_of (root_of (definition_of def.now))) (value_of_ref v) ≤ cell_limit }
@@ -128,8 +124,7 @@ pub fn frozen_file(alloc: Global, def: &Definition, v: TreeRef<'_>) -> Result<Ve
 }
 
 /// The frozen file of a value of a layout, of either version, in the least layout of version 2 with the kinds
-/// of that one, whatever its widths and bases. A schema of 2^32 bytes or more, which no layout within the
-/// limits has, is answered by want of memory.
+/// of that one, whatever its widths and bases.
 pub fn refrozen_file(alloc: Global, from: &Layouts, v: TreeRef<'_>) -> Result<Vec<u8>, AllocError>
     requires form { Of (layout_of from.now).tree (value_of_ref v) }
     requires few { cells (layout_of from.now).tree (value_of_ref v) ≤ cell_limit }

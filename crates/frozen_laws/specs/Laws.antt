@@ -8,7 +8,6 @@ use Rattle.frozen_model.specs.Values.{Value, Of, cells, inline_cells, range_cell
 use Rattle.frozen_model.specs.Layouts.{Version, Layout, IsLayout, Described, described, MayRelax, IsDescribed, OfVersion, Legal, Narrower, stride, Layouts, Version1, Version2, Coded, Unsigned, TwosComplement, FromBase, IsCoded, width, Fits, number_of, atom_of, stored, meaning, in_range}
 use Rattle.frozen_model.specs.Packing.{extent, image, tail, pack, Packs, packed, bytes_for, Stands, Place, place, PartAt, Lies}
 use Rattle.frozen_model.specs.Walk.{walk, open_content}
-use Rattle.frozen_model.specs.Files.{SchemaFault, File, open_file, frozen}
 use Rattle.frozen_model.specs.Holding.{Puts, AllPuts, puts_of, Holds, greatest_digits, IsStart, Least, pass, passes, Among, IsLeastOf, greatest_need, Blank, Based}
 use Rattle.frozen_laws.specs.Everywhere.{HoldsAt}
 
@@ -274,31 +273,3 @@ pub record IsContent (l : Layout) (v : Value) (bs : List ℕ) : Type 0 where
 abbrev pub ContentIsExact : Type 0
 ContentIsExact = (n : Version) (l : Layout) (v : Value) (bs : List ℕ) → IsLayout n l → IsBytes bs
     → open_content bs l ≡ Ok v ↔ IsContent l v bs
-
--- ---- files, where Spells s d says that the bytes s are a schema of the layout d
-
--- the bytes of a schema are those of a layout within the limits
-abbrev pub SpellsLayouts : (List ℕ → Described → Type 0) → Type 0
-SpellsLayouts Spells = (s : List ℕ) (d : Described) → Spells s d → IsDescribed d
-
--- a reader gives a layout exactly where the bytes are a schema of it
-abbrev pub ReadsExactly : (List ℕ → Described → Type 0) → (List ℕ → Result Described SchemaFault) → Type 0
-ReadsExactly Spells read = (s : List ℕ) (d : Described) → IsBytes s → read s ≡ Ok d ↔ Spells s d
-
--- with such a reader a file is opened as a layout and a value exactly where it is the frozen file of that value in
--- that layout
-abbrev pub OpeningIsExact : (List ℕ → Described → Type 0) → Type 0
-OpeningIsExact Spells = (read : List ℕ → Result Described SchemaFault) → SpellsLayouts Spells → ReadsExactly Spells read
-    → (b : List ℕ) (d : Described) (v : Value) → IsBytes b → open_file read b ≡ Ok (d, v) ↔ File Spells b d v
-
--- it is that of one value in one layout
-abbrev pub FilesAreUnique : (List ℕ → Described → Type 0) → Type 0
-FilesAreUnique Spells = (read : List ℕ → Result Described SchemaFault) → SpellsLayouts Spells → ReadsExactly Spells read
-    → (b : List ℕ) (d e : Described) (v u : Value) → IsBytes b → File Spells b d v → File Spells b e u
-    → (d ≡ e) × (v ≡ u)
-
--- the frozen file of a value that a layout holds is a file of both, where a schema of the layout is written
-abbrev pub FrozenIsFile : (List ℕ → Described → Type 0) → Type 0
-FrozenIsFile Spells = (write : Described → List ℕ) (d : Described) (v : Value) → Spells (write d) d
-    → length (write d) < 2 ^ 32
-    → Holds d.tree v → cells d.tree v ≤ cell_limit → File Spells (frozen write d v) d v

@@ -9,7 +9,7 @@ ghost use Rattle.frozen_laws.specs.Laws.{KindsDecide, StridesAreSmall, CellsByRa
 ghost use Rattle.frozen_laws.specs.Laws.{ExtentsAreBounded, PackingIsBounded, DistancesAreBounded, HoldsEverywhere, EverywhereHolds};
 ghost use Rattle.frozen_laws.specs.Laws.{PackingIsInjective, PackingExists, PackingIsOne, WalkIsSound, WalkIsComplete};
 ghost use Rattle.frozen_laws.specs.Laws.{PartsStand, PartsLie, PartsAreNodes, PartsHaveFewerCells, OnePartLies};
-ghost use Rattle.frozen_laws.specs.Laws.{ContentIsExact, OpeningIsExact, FilesAreUnique, FrozenIsFile};
+ghost use Rattle.frozen_laws.specs.Laws.{ContentIsExact};
 
 /// Under wider layouts the extents, the distances and the needs of a value are as great or greater.
 pub fn extents_grow()
@@ -92,22 +92,9 @@ pub fn walk_is_complete()
     ensures { WalkIsComplete }
 {}
 
-/// A form of schemas: which bytes are a schema of which layout.
-pub trait Schemas {
-    ghost use Rattle.std.specs.Prelude.{ℕ, List};
-    ghost use Rattle.frozen_model.specs.Layouts.{Described};
-
-    ghost spells: { List ℕ → Described → Type 0 };
-}
-
-/// A content or a file is opened exactly where it is the packing of the value given, in a layout that holds it, and a
-/// file is that of one value in one layout. This is so for each form of schemas and each reader that is exact for it.
-/// The frozen file of a value is a file of it.
-pub fn opening_is_exact<S: Schemas>()
-    ensures content { ContentIsExact }
-    ensures files { OpeningIsExact S.spells }
-    ensures unique { FilesAreUnique S.spells }
-    ensures frozen { FrozenIsFile S.spells }
+/// A content is opened as a value exactly where it is the packing of that value, in a layout that holds it.
+pub fn content_is_exact()
+    ensures { ContentIsExact }
 {}
 
 /// Where a value stands each part of it stands at its own place; so it does in the value's packing, and one part alone

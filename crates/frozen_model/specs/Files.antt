@@ -1,5 +1,5 @@
 -- Files: the bytes of a header, a schema and a content, and what is wrong with other bytes.
-use Rattle.std.specs.Prelude.{◌≡◌, ℕ, ◌-◌, ◌/◌, ◌%◌, ◌≤◌, List, [], ◌∷◌, ◌++◌, Bool, true, false, ◌&&◌, length, nat_le, take, drop, Result, Ok, Err, ℤ}
+use Rattle.std.specs.Prelude.{◌≡◌, ℕ, ◌-◌, ◌/◌, ◌%◌, ◌≤◌, List, [], ◌∷◌, ◌++◌, Bool, true, false, ◌&&◌, length, nat_le, take, drop, Result, Ok, Err}
 use Rattle.std.specs.Str.{bytes_eq}
 use Rattle.frozen_model.specs.Bits.{number}
 use Rattle.frozen_model.specs.Values.{Value, cells, cell_limit}
@@ -7,21 +7,6 @@ use Rattle.frozen_model.specs.Layouts.{Described}
 use Rattle.frozen_model.specs.Packing.{Packs, packed}
 use Rattle.frozen_model.specs.Holding.{Holds}
 use Rattle.frozen_model.specs.Walk.{Fault, Short, open_content}
-
--- what can be wrong with bytes that should be one Compact struct: they end within it, a byte begins nothing, bytes
--- follow it
-pub data SpellingFault : Type 0 where
-  Truncated : SpellingFault
-  Malformed : ℕ → SpellingFault
-  Trailing : ℕ → SpellingFault
-
--- what can be wrong with a schema: its spelling, the fields at a node of it, its version, its tree at a node of the
--- layout
-pub data SchemaFault : Type 0 where
-  Spelling : SpellingFault → SchemaFault
-  Fields : ℕ → SchemaFault
-  OtherVersion : ℤ → SchemaFault
-  Shape : ℤ → SchemaFault
 
 -- what can be wrong with a file, where F is what can be wrong with a schema
 pub data FileFault (F : Type 0) : Type 0 where

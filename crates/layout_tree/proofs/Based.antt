@@ -29,6 +29,7 @@ mutual
     version = λ o. based_coded h;
     legal = λ o. same_legal Version2 (Integer j) c.base w c.bits o;
     noted = λ o. same_legal Version2 (Integer j) c.base w c.wide o;
+    based = λ o. tt;
   })
   based_turned (ItemRange g d c l) (suc (suc (suc k))) w h = in_item (based_turned l k w h)
   based_turned (Optional x l) (suc (suc k)) w h = in_optional (based_turned l k w h)

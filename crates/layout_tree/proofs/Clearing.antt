@@ -132,6 +132,7 @@ renewed e v old new li so en =
     let tells : tree_of new ≡ b = ap tree_of is ∙ tree_again b in
     subst (λ (m : KindTree). Shaped m new) (sym (layout_kinds v t))
     (record {
+      tells = tells;
       listing = is ∙ ap all_nodes (sym tells);
       sound = subst (λ (m : Noted). ∥ IsNotedLayout Second m ∥₁) (sym tells)
           (∥∥₁_map so (λ x. blank_sound k x.kind_tree x.root));

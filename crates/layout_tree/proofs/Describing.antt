@@ -9,9 +9,9 @@ use Rattle.frozen_laws.proofs.SameKinds.{struct_along, kind_tree_along}
 use Rattle.layout_tree.specs.declared.layouts.Layouts.{Layouts}
 use Rattle.layout_tree.specs.declared.node.FormVersion.{FormVersion}
 use Rattle.layout_tree.specs.Listing.{Noted, AllNoted, layout_in, layouts_in, settled, version_of}
-use Rattle.layout_tree.specs.Listing.{IsNotedLayout, tree_of}
+use Rattle.layout_tree.specs.Listing.{IsNotedLayout, tree_of, BasesStand}
 use Rattle.layout_tree.specs.Nodes.{layout_of, settled_of}
-use Rattle.layout_tree.proofs.Held.{described_held}
+use Rattle.layout_tree.proofs.Held.{described_held, bases_held}
 use Rattle.layout_tree.proofs.Settled.{settled_sound}
 
 mutual
@@ -58,3 +58,6 @@ kept_described l =
 pub settled_described : (l : Layouts) → IsDescribed (settled_of l)
 settled_described l =
     described_held (settled_of l) (settled_is l.version l.relaxed (tree_of l.nodes.items) l.relaxing l.sound)
+
+pub kept_bases : (l : Layouts) → BasesStand (version_of l.version) (tree_of l.nodes.items)
+kept_bases l = bases_held (version_of l.version) (tree_of l.nodes.items) (∥∥₁_map l.sound (λ x. x.based))

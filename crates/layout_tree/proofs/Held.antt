@@ -3,6 +3,7 @@
 use Rattle.std.proofs.Common.{◌≡◌, ℕ, ◌≤◌, List, [], ◌∷◌, ℤ, pos, negsuc, Bool, true, false, arith, refl}
 use Rattle.std.proofs.Math.Logic.{∥∥₁_elim, ∥∥₁_map}
 use Rattle.std.proofs.Math.Bridge.{le_prop}
+use Rattle.std.proofs.Math.IntN.{ℤ_set}
 use mathlib.Core.HLevel.{⊥_prop}
 use Rattle.frozen_model.specs.Trees.{Holder, AList, ASet, AMap, LeafKind, Flag, Integer, Leaf, ByteRange}
 use Rattle.frozen_model.specs.Trees.{ItemRange, Optional, Struct, NoField, Field, ids_of, value_bits, IsKey}
@@ -13,6 +14,7 @@ use Rattle.frozen_model.specs.Layouts.{Version, Version1, Version2, Coded, Unsig
 use Rattle.frozen_model.specs.Layouts.{IsCoded, flag_coded, signed_coded, based_coded, Layout, Layouts}
 use Rattle.frozen_model.specs.Layouts.{OfVersion, AllOfVersion, Legal, AllLegal, MayRelax, Described}
 use Rattle.frozen_model.specs.Layouts.{IsLayout, IsDescribed}
+use Rattle.layout_tree.specs.Listing.{Noted, AllNoted, BaseStands, BasesStand, AllBasesStand}
 
 le_held : {a b : ℕ} → ∥ a ≤ b ∥₁ → a ≤ b
 le_held h = ∥∥₁_elim h le_prop (λ x. x)
@@ -206,3 +208,25 @@ described_held d h = record {
   relaxing = relaxing_held d.version d.relaxed (∥∥₁_map h (λ x. x.relaxing));
   layout = layout_held d.version d.tree (∥∥₁_map h (λ x. x.layout));
 }
+
+-- ---- bases
+
+base_held : (v : Version) (k : LeafKind) (b : ℤ) → ∥ BaseStands v k b ∥₁ → BaseStands v k b
+base_held v Flag b h = ∥∥₁_elim h (ℤ_set b (pos 0)) (λ x. x)
+base_held Version1 (Integer k) b h = ∥∥₁_elim h (ℤ_set b (pos 0)) (λ x. x)
+base_held Version2 (Integer k) b h = tt
+
+mutual
+  pub bases_held : (v : Version) (t : Noted) → ∥ BasesStand v t ∥₁ → BasesStand v t
+  bases_held v (Leaf k c) h = base_held v k c.base h
+  bases_held v (ByteRange t d c) h = tt
+  bases_held v (ItemRange g d c l) h = bases_held v l h
+  bases_held v (Optional w l) h = bases_held v l h
+  bases_held v (Struct ls) h = all_bases_held v ls h
+
+  all_bases_held : (v : Version) (ls : AllNoted) → ∥ AllBasesStand v ls ∥₁ → AllBasesStand v ls
+  all_bases_held v NoField h = tt
+  all_bases_held v (Field i l ls) h = (
+    bases_held v l (∥∥₁_map h (λ x. x.0)),
+    all_bases_held v ls (∥∥₁_map h (λ x. x.1)),
+  )

@@ -24,7 +24,7 @@ mutual
   noted_turned : (v : Version) (t : Noted) (k w : ℕ) → LeafAt t k w
       → Turned v (λ b. b) (λ n. w) t (noted_at t k w) k
   noted_turned v (Leaf j c) zero w h = leaf
-      (record { version = λ o. o; legal = λ o. o; noted = λ o. legal_leaf v j c.base w h })
+      (record { version = λ o. o; legal = λ o. o; noted = λ o. legal_leaf v j c.base w h; based = λ o. o })
   noted_turned v (ByteRange t d c) (suc zero) w h = bytes_distance (record { base = refl; noted = h })
   noted_turned v (ByteRange t d c) (suc (suc zero)) w h = bytes_count (record { base = refl; noted = h })
   noted_turned v (ItemRange g d c l) (suc zero) w h = distance (record { base = refl; noted = h })

@@ -10,7 +10,7 @@ use Rattle.layout_tree.specs.declared.node.NodeSpec.{NodeSpec}
 use Rattle.layout_tree.specs.declared.node.Kind.{Kind}
 use Rattle.layout_tree.specs.declared.node.Kind.TheVariants as kinds
 use Rattle.layout_tree.specs.Listing.{Noted, AllNoted, inline, item_struct, nodes_of, nodes_of_all, tree_of}
-use Rattle.layout_tree.specs.Listing.{IsListing, sub, layout_in}
+use Rattle.layout_tree.specs.Listing.{IsListing, sub, layout_in, all_nodes}
 use Rattle.layout_tree.specs.Reading.{plain, kind_at, child_of, IsRange, IsHolder, item_of, item_stride}
 use Rattle.layout_tree.specs.Given.{shown}
 use Rattle.layout_tree.proofs.Readings.{kind_read, read_first, length_listing}
@@ -205,6 +205,10 @@ pub get_shown : (xs : List NodeSpec) (i : ℕ) (x : NodeSpec) → i < length xs 
 get_shown [] i x h e = absurd (omega arith)
 get_shown (y ∷ ys) zero x h e = ap (λ z. Some (shown z)) (sym e)
 get_shown (y ∷ ys) (suc i) x h e = get_shown ys i x (omega arith) e
+
+pub get_listed : (ns : List NodeSpec) (n : ℕ) (x : NodeSpec) → IsListing ns → n < length ns
+    → x ≡ get_or ns n x → slice_get (map shown (all_nodes (tree_of ns))) n ≡ Some (shown x)
+get_listed ns n x li lt e = ap (λ r. slice_get (map shown r) n) (sym li) ∙ get_shown ns n x lt e
 
 -- ---- ranges by their kind
 

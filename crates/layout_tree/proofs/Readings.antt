@@ -9,7 +9,7 @@ use Rattle.frozen_model.specs.Trees.{Field, nodes, nodes_all, Part, greatest_bit
 use Rattle.frozen_model.specs.Trees.{IsFormed, AllFormed}
 use Rattle.frozen_model.specs.Trees.{IsNarrow, AllNarrow, itself, in_item, in_optional, in_struct, PartAll}
 use Rattle.frozen_model.specs.Trees.{in_first, in_later, kinds as kinds_of, kinds_all}
-use Rattle.frozen_model.specs.Layouts.{Version, Version1, Version2, FromBase, Layout, width, stride, strides}
+use Rattle.frozen_model.specs.Layouts.{Version, Version1, Version2, Layout, width, stride, strides}
 use Rattle.frozen_model.specs.Layouts.{Legal, AllLegal}
 use Rattle.frozen_laws.proofs.Limits.{greatest_small}
 use Rattle.layout_tree.specs.declared.node.NodeSpec.{NodeSpec}
@@ -18,9 +18,9 @@ use Rattle.layout_tree.specs.declared.node.Kind.{Kind}
 use Rattle.layout_tree.specs.declared.node.Kind.TheVariants as kinds
 use Rattle.layout_tree.specs.Listing.{Noted, AllNoted, coded, layout_in, layouts_in, inline, inline_all}
 use Rattle.layout_tree.specs.Listing.{kind_of, item_struct, nodes_of, tree_of, IsListing, version_of}
-use Rattle.layout_tree.specs.Listing.{IsNotedLayout}
+use Rattle.layout_tree.specs.Listing.{IsNotedLayout, BasesStand, AllBasesStand}
 use Rattle.layout_tree.specs.Reading.{plain, kind_at, IsLeaf, IsRange, IsHolder, IsOptional, distance_width}
-use Rattle.layout_tree.specs.Reading.{count_width, isset_width, item_of}
+use Rattle.layout_tree.specs.Reading.{count_width, isset_width, item_of, base_at}
 use Rattle.layout_tree.specs.Segments.{IsStructKind}
 use Rattle.layout_tree.proofs.Place.{At, some_nodes, length_nodes}
 
@@ -146,6 +146,18 @@ bound e t s n a b h p f = ∥∥₁_elim h le_prop (λ x. f (sound_part e p x))
 
 pub few_nodes : (e : FormVersion) (t : Noted) → ∥ IsNotedLayout e t ∥₁ → nodes t ≤ 4096
 few_nodes e t h = ∥∥₁_elim h le_prop (λ x. omega (arith, x.kind_tree.few, kinds_nodes t))
+
+mutual
+  pub bases_part : (v : Version) {t s : Noted} {i n : ℕ} → Part t i s n → BasesStand v t → BasesStand v s
+  bases_part v itself h = h
+  bases_part v (in_item p) h = bases_part v p h
+  bases_part v (in_optional p) h = bases_part v p h
+  bases_part v (in_struct p) h = bases_part_all v p h
+
+  bases_part_all : (v : Version) {ts : AllNoted} {s : Noted} {i n : ℕ} → PartAll ts i s n
+      → AllBasesStand v ts → BasesStand v s
+  bases_part_all v (in_first p) h = bases_part v p h.0
+  bases_part_all v (in_later p) h = bases_part_all v p h.1
 
 -- ---- reads
 
@@ -333,19 +345,19 @@ item_read v {ns} {s} {n} a d h = ap (λ x. x.bits) (a.read 3 d)
     ∙ head_item v s a.kind n a.parent a.field a.offset a.post d h
 
 pub base_read : (v : Version) {ns : List NodeSpec} {s : Noted} {n : ℕ} → At ns s n → (d : NodeSpec)
-    → (k : LeafKind) (b : ℤ) (w : ℕ) → layout_in v s ≡ Leaf k (FromBase b w) → (get_or ns n d).base ≡ b
-base_read v {ns} {s} {n} a d k b w e = ap (λ x. x.base) (read_first a d)
-    ∙ go s v n a.kind a.parent a.field a.offset e
+    → BasesStand v s → (get_or ns n d).base ≡ base_at (layout_in v s)
+base_read v {ns} {s} {n} a d h = ap (λ x. x.base) (read_first a d)
+    ∙ go s v n a.kind a.parent a.field a.offset h
   where
-    go : (s : Noted) (v : Version) (i : ℕ) (sk : Kind) (p f o : ℕ) → layout_in v s ≡ Leaf k (FromBase b w)
-        → (get_or (nodes_of s sk i p f o ++ a.post) 0 d).base ≡ b
-    go (Leaf Flag c) v i sk p f o e = absurd cc
-    go (Leaf (Integer j) c) Version1 i sk p f o e = absurd cc
-    go (Leaf (Integer j) c) Version2 i sk p f o e = cc
-    go (ByteRange t x c) v i sk p f o e = absurd cc
-    go (ItemRange g x c l) v i sk p f o e = absurd cc
-    go (Optional x l) v i sk p f o e = absurd cc
-    go (Struct ls) v i sk p f o e = absurd cc
+    go : (s : Noted) (v : Version) (i : ℕ) (sk : Kind) (p f o : ℕ) → BasesStand v s
+        → (get_or (nodes_of s sk i p f o ++ a.post) 0 d).base ≡ base_at (layout_in v s)
+    go (Leaf Flag c) v i sk p f o h = h
+    go (Leaf (Integer j) c) Version1 i sk p f o h = h
+    go (Leaf (Integer j) c) Version2 i sk p f o h = refl
+    go (ByteRange t x c) v i sk p f o h = refl
+    go (ItemRange g x c l) v i sk p f o h = refl
+    go (Optional x l) v i sk p f o h = refl
+    go (Struct ls) v i sk p f o h = refl
 
 -- ---- how many nodes a part has at least
 

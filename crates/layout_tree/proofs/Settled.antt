@@ -15,7 +15,7 @@ use Rattle.layout_tree.specs.declared.node.FormVersion.{FormVersion}
 use Rattle.layout_tree.specs.declared.node.Kind.TheVariants as kinds
 use Rattle.layout_tree.specs.Listing.{LeafWidths, Noted, AllNoted, coded, layout_in, layouts_in, settled}
 use Rattle.layout_tree.specs.Listing.{settled_all, nodes_of, tree_of, all_nodes, IsListing, version_of}
-use Rattle.layout_tree.specs.Listing.{IsNotedLayout}
+use Rattle.layout_tree.specs.Listing.{IsNotedLayout, BasesStand, AllBasesStand}
 use Rattle.layout_tree.specs.Segments.{total, total_all, Segment, PartSettled}
 use Rattle.layout_tree.proofs.Decode.{tree_again}
 use Rattle.layout_tree.proofs.Readings.{coded_width, few_nodes}
@@ -70,6 +70,18 @@ mutual
   settled_version_all v NoField h = h
   settled_version_all v (Field i l ls) h = (settled_version v l h.0, settled_version_all v ls h.1)
 
+mutual
+  settled_bases : (v : Version) (t : Noted) → BasesStand v t → BasesStand v (settled t)
+  settled_bases v (Leaf k c) h = h
+  settled_bases v (ByteRange t d c) h = h
+  settled_bases v (ItemRange g d c l) h = settled_bases v l h
+  settled_bases v (Optional w l) h = settled_bases v l h
+  settled_bases v (Struct ls) h = settled_bases_all v ls h
+
+  settled_bases_all : (v : Version) (ls : AllNoted) → AllBasesStand v ls → AllBasesStand v (settled_all ls)
+  settled_bases_all v NoField h = h
+  settled_bases_all v (Field i l ls) h = (settled_bases v l h.0, settled_bases_all v ls h.1)
+
 pub settled_sound : (e : FormVersion) (t : Noted) → IsNotedLayout e t → IsNotedLayout e (settled t)
 settled_sound e t h = record {
   root = subst (λ (m : Tree (Unit {0}) (Unit {0})). IsStruct m) (sym (settled_kinds t)) h.root;
@@ -77,6 +89,7 @@ settled_sound e t h = record {
   coded = settled_version (version_of e) t h.coded;
   legal = h.noted;
   noted = subst (λ (m : Noted). Legal (layout_in (version_of e) m)) (sym (settled_twice t)) h.noted;
+  based = settled_bases (version_of e) t h.based;
 }
 
 -- ---- the noted widths together

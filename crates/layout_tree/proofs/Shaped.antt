@@ -16,6 +16,7 @@ use Rattle.layout_tree.specs.declared.node.NodeSpec.{NodeSpec}
 use Rattle.layout_tree.specs.declared.node.FormVersion.TheVariants.{Second}
 use Rattle.layout_tree.specs.Listing.{Noted, AllNoted, coded, layout_in, layouts_in, settled, settled_all}
 use Rattle.layout_tree.specs.Listing.{tree_of, nodes_of, all_nodes, IsListing, IsNotedLayout}
+use Rattle.layout_tree.specs.Listing.{BaseStands, BasesStand, AllBasesStand}
 use Rattle.layout_tree.specs.Given.{resting}
 use Rattle.layout_tree.specs.Shapes.{blank, all_blank, shape_of, CanAdd, Adds}
 use Rattle.layout_tree.proofs.Decode.{tree_again}
@@ -80,6 +81,22 @@ mutual
   all_blank_legal NoField = tt
   all_blank_legal (Field i l ls) = (blank_legal l, all_blank_legal ls)
 
+blank_base : (k : LeafKind) → BaseStands Version2 k (pos 0)
+blank_base Flag = refl
+blank_base (Integer j) = tt
+
+mutual
+  blank_bases : (k : KindTree) → BasesStand Version2 (blank k)
+  blank_bases (Leaf k a) = blank_base k
+  blank_bases (ByteRange t d c) = tt
+  blank_bases (ItemRange h d c l) = blank_bases l
+  blank_bases (Optional w l) = blank_bases l
+  blank_bases (Struct ls) = all_blank_bases ls
+
+  all_blank_bases : (ks : KindTrees) → AllBasesStand Version2 (all_blank ks)
+  all_blank_bases NoField = tt
+  all_blank_bases (Field i l ls) = (blank_bases l, all_blank_bases ls)
+
 pub blank_sound : (k : KindTree) → IsKindTree k → IsStruct k → IsNotedLayout Second (blank k)
 blank_sound k h r = record {
   root = subst (λ (m : KindTree). IsStruct m) (sym (blank_kinds k)) r;
@@ -87,9 +104,11 @@ blank_sound k h r = record {
   coded = blank_coded k;
   legal = blank_legal k;
   noted = subst (λ (t : Noted). Legal (layout_in Version2 t)) (sym (blank_settled k)) (blank_legal k);
+  based = blank_bases k;
 }
 
 pub record Shaped (k : KindTree) (ns : List NodeSpec) : Type 0 where
+  pub tells : tree_of ns ≡ blank k
   pub listing : IsListing ns
   pub sound : ∥ IsNotedLayout Second (tree_of ns) ∥₁
   pub layout : described Version2 true (layout_in Version2 (tree_of ns)) ≡ shape_of k
@@ -102,6 +121,7 @@ shaped k ns h r e =
     let t = blank k in
     let tells : tree_of ns ≡ t = ap tree_of e ∙ tree_again t in
     record {
+      tells = tells;
       listing = e ∙ ap all_nodes (sym tells);
       sound = subst (λ (m : Noted). ∥ IsNotedLayout Second m ∥₁) (sym tells) ∣ blank_sound k h r ∣₁;
       layout = ap (λ (m : Noted). described Version2 true (layout_in Version2 m)) tells;

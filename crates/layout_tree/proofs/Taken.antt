@@ -3,7 +3,7 @@ use Rattle.std.proofs.Common.{◌≡◌, ℕ, ℤ, Bool, true, false, nat_eq, �
 use Rattle.std.proofs.Common.{sym, ◌∙◌, subst, length, map, take, drop, w32}
 use Rattle.std.proofs.lemmas.List.{append-nil}
 use mir.Val.{of_z}
-use Rattle.frozen_model.specs.Trees.{KindTree, LeafKind, Leaf, ByteRange, ItemRange, Optional, Struct}
+use Rattle.frozen_model.specs.Trees.{Flag, Integer, KindTree, LeafKind, Leaf, ByteRange, ItemRange, Optional, Struct}
 use Rattle.frozen_model.specs.Trees.{NoField, Field, nodes, nodes_all, kinds as kinds_of, kinds_all, IsStruct}
 use Rattle.frozen_model.specs.Trees.{IsKindTree}
 use Rattle.frozen_model.specs.Layouts.{Version, Version1, Version2, Coded, width, IsCoded, flag_coded}
@@ -15,7 +15,7 @@ use Rattle.layout_tree.specs.declared.node.FormVersion.{FormVersion}
 use Rattle.layout_tree.specs.declared.node.Kind.TheVariants as kinds
 use Rattle.layout_tree.specs.Listing.{Noted, AllNoted, coded, layout_in, layouts_in, settled, settled_all}
 use Rattle.layout_tree.specs.Listing.{tree_of, all_nodes, IsListing, version_of, version_number}
-use Rattle.layout_tree.specs.Listing.{IsNotedLayout}
+use Rattle.layout_tree.specs.Listing.{IsNotedLayout, BaseStands, BasesStand, AllBasesStand}
 use Rattle.layout_tree.specs.Reading.{base_of}
 use Rattle.layout_tree.specs.Given.{shown, resting, noted_from, all_noted_from, IsListOf}
 use Rattle.layout_tree.specs.Marking.{Unmarked, Marked}
@@ -78,6 +78,24 @@ mutual
   all_nodes_from NoField = refl
   all_nodes_from (Field i l ls) = let e = nodes_from l in let f = all_nodes_from ls in cc
 
+-- what stands for a base is the base of the leaf's code
+base_from : (v : Version) (k : LeafKind) (c : Coded) → IsCoded v k c → BaseStands v k (base_of c)
+base_from v Flag c flag_coded = refl
+base_from v (Integer k) c signed_coded = refl
+base_from v (Integer k) c (based_coded b) = tt
+
+mutual
+  bases_from : (v : Version) (l : Layout) → OfVersion v l → BasesStand v (noted_from l)
+  bases_from v (Leaf k c) h = base_from v k c h
+  bases_from v (ByteRange t d c) h = tt
+  bases_from v (ItemRange g d c l) h = bases_from v l h
+  bases_from v (Optional w l) h = bases_from v l h
+  bases_from v (Struct ls) h = all_bases_from v ls h
+
+  all_bases_from : (v : Version) (ls : Layouts) → AllOfVersion v ls → AllBasesStand v (all_noted_from ls)
+  all_bases_from v NoField h = tt
+  all_bases_from v (Field i l ls) h = (bases_from v l h.0, all_bases_from v ls h.1)
+
 sound_from : (e : FormVersion) (d : Described) (ns : List NodeSpec) (z : ℤ) (r : Bool) → IsListOf d ns z r
     → version_of e ≡ d.version → IsNotedLayout e (noted_from d.tree)
 sound_from e d ns z r h ev =
@@ -95,6 +113,7 @@ sound_from e d ns z r h ev =
       coded = subst (λ (m : Layout). OfVersion (version_of e) m) same of;
       legal = legal;
       noted = subst (λ (t : Noted). Legal (layout_in (version_of e) t)) (sym (settled_from l)) legal;
+      based = bases_from (version_of e) l of;
     }
 
 pub few_given : {d : Described} {ns : List NodeSpec} {z : ℤ} {r : Bool} (xs : List NodeSpec) → xs ≡ ns
@@ -131,6 +150,7 @@ whole_given {d} {ns} {z} {r} xs x h = record {
 }
 
 pub record Takes (d : Described) (e : FormVersion) (r : Bool) (ms : List NodeSpec) : Type 0 where
+  pub tells : tree_of ms ≡ noted_from d.tree
   pub listing : IsListing ms
   pub sound : ∥ IsNotedLayout e (tree_of ms) ∥₁
   pub relaxing : ∥ MayRelax (version_of e) r ∥₁
@@ -150,6 +170,7 @@ takes d ns xs ms z r e n b x h ev en el done =
     let tells : tree_of now ≡ t = ap tree_of is ∙ tree_again t in
     let of : OfVersion v l = subst (λ (w : Version). OfVersion w l) (sym ev) h.described.layout.coded in
     record {
+      tells = tells;
       listing = is ∙ ap all_nodes (sym tells);
       sound = subst (λ (m : Noted). ∥ IsNotedLayout e m ∥₁) (sym tells) ∣ sound_from e d ns z r h ev ∣₁;
       relaxing = ∣ subst (λ (w : Version). MayRelax w r) (sym ev)

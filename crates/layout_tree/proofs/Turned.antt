@@ -14,7 +14,8 @@ use Rattle.layout_tree.specs.declared.node.Kind.TheVariants as kinds
 use Rattle.layout_tree.specs.Listing.{Width, LeafWidths, Noted, AllNoted, coded, layout_in, layouts_in}
 use Rattle.layout_tree.specs.Listing.{settled, settled_all, inline, inline_all, kind_of_holder, item_struct}
 use Rattle.layout_tree.specs.Listing.{spec, size, kind_of_bytes, nodes_of, nodes_of_all, tree_of, all_nodes}
-use Rattle.layout_tree.specs.Listing.{IsListing, version_of, IsNotedLayout}
+use Rattle.layout_tree.specs.Listing.{IsListing, version_of, IsNotedLayout, BaseStands, BasesStand}
+use Rattle.layout_tree.specs.Listing.{AllBasesStand}
 use Rattle.layout_tree.proofs.Decode.{tree_again}
 use Rattle.layout_tree.proofs.Place.{length_nodes}
 
@@ -43,6 +44,7 @@ pub record TurnsLeaf (v : Version) (B : ℤ → ℤ) (W : ℕ → ℕ) (j : Leaf
   pub legal : width (coded v j c.base c.bits) ≤ greatest j → width (coded v j (B c.base) c.bits) ≤ greatest j
   pub noted : width (coded v j c.base c.wide) ≤ greatest j
       → width (coded v j (B c.base) (W c.wide)) ≤ greatest j
+  pub based : BaseStands v j c.base → BaseStands v j (B c.base)
 
 -- a distance, a count or a flag of that greatest width may be turned: it has no base
 pub record TurnsWidth (B : ℤ → ℤ) (W : ℕ → ℕ) (most : ℕ) (d : Width) : Type 0 where
@@ -242,39 +244,45 @@ record Stands (v : Version) (t u : Noted) : Type 0 where
   pub version : OfVersion v (layout_in v t) → OfVersion v (layout_in v u)
   pub legal : Legal (layout_in v t) → Legal (layout_in v u)
   pub noted : Legal (layout_in v (settled t)) → Legal (layout_in v (settled u))
+  pub based : BasesStand v t → BasesStand v u
 
 record AllStand (v : Version) (ts us : AllNoted) : Type 0 where
   pub version : AllOfVersion v (layouts_in v ts) → AllOfVersion v (layouts_in v us)
   pub legal : AllLegal (layouts_in v ts) → AllLegal (layouts_in v us)
   pub noted : AllLegal (layouts_in v (settled_all ts)) → AllLegal (layouts_in v (settled_all us))
+  pub based : AllBasesStand v ts → AllBasesStand v us
 
 mutual
   turned_stands : {v : Version} {B : ℤ → ℤ} {W : ℕ → ℕ} {t u : Noted} {k : ℕ} → Turned v B W t u k
       → Stands v t u
-  turned_stands (leaf h) = record { version = h.version; legal = h.legal; noted = h.noted }
+  turned_stands (leaf h) = record { version = h.version; legal = h.legal; noted = h.noted; based = h.based }
   turned_stands (bytes_distance h) = record {
     version = λ o. o;
     legal = λ o. o;
     noted = λ o. (h.noted, o.1);
+    based = λ o. o;
   }
-  turned_stands (bytes_count h) = record { version = λ o. o; legal = λ o. o; noted = λ o. (o.0, h.noted) }
-  turned_stands (distance h) = record { version = λ o. o; legal = λ o. o; noted = λ o. (h.noted, o.1, o.2) }
-  turned_stands (count h) = record { version = λ o. o; legal = λ o. o; noted = λ o. (o.0, h.noted, o.2) }
+  turned_stands (bytes_count h) = record { version = λ o. o; legal = λ o. o; noted = λ o. (o.0, h.noted); based = λ o. o }
+  turned_stands (distance h) = record { version = λ o. o; legal = λ o. o; noted = λ o. (h.noted, o.1, o.2); based = λ o. o }
+  turned_stands (count h) = record { version = λ o. o; legal = λ o. o; noted = λ o. (o.0, h.noted, o.2); based = λ o. o }
   turned_stands (in_item q) = let i = turned_stands q in record {
     version = i.version;
     legal = λ o. (o.0, o.1, i.legal o.2);
     noted = λ o. (o.0, o.1, i.noted o.2);
+    based = i.based;
   }
-  turned_stands (flag h) = record { version = λ o. o; legal = λ o. o; noted = λ o. (h.noted, o.1) }
+  turned_stands (flag h) = record { version = λ o. o; legal = λ o. o; noted = λ o. (h.noted, o.1); based = λ o. o }
   turned_stands (in_optional q) = let i = turned_stands q in record {
     version = i.version;
     legal = λ o. (o.0, i.legal o.1);
     noted = λ o. (o.0, i.noted o.1);
+    based = i.based;
   }
   turned_stands (in_struct q) = let i = turned_stand q in record {
     version = i.version;
     legal = i.legal;
     noted = i.noted;
+    based = i.based;
   }
 
   turned_stand : {v : Version} {B : ℤ → ℤ} {W : ℕ → ℕ} {ts us : AllNoted} {k : ℕ} → TurnedAll v B W ts us k
@@ -283,11 +291,13 @@ mutual
     version = λ o. (i.version o.0, o.1);
     legal = λ o. (i.legal o.0, o.1);
     noted = λ o. (i.noted o.0, o.1);
+    based = λ o. (i.based o.0, o.1);
   }
   turned_stand (in_later high q) = let i = turned_stand q in record {
     version = λ o. (o.0, i.version o.1);
     legal = λ o. (o.0, i.legal o.1);
     noted = λ o. (o.0, i.noted o.1);
+    based = λ o. (o.0, i.based o.1);
   }
 
 turned_sound : (e : FormVersion) {B : ℤ → ℤ} {W : ℕ → ℕ} {t u : Noted} {k : ℕ}
@@ -301,6 +311,7 @@ turned_sound e q o =
       coded = stands.version o.coded;
       legal = stands.legal o.legal;
       noted = stands.noted o.noted;
+      based = stands.based o.based;
     }
 
 -- the nodes list the tree u, which is sound

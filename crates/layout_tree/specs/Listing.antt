@@ -254,11 +254,31 @@ abbrev pub version_of : FormVersion → Version
 version_of First = Version1
 version_of Second = Version2
 
+-- what stands in the place of a scalar's base: 0 where it has none, at a flag and in version 1
+abbrev pub BaseStands : Version → LeafKind → ℤ → Type 0
+BaseStands v Flag b = b ≡ pos 0
+BaseStands Version1 (Integer k) b = b ≡ pos 0
+BaseStands Version2 (Integer k) b = Unit {0}
+
+-- 0 stands in the place of the base of each leaf that has none
+abbrev mutual
+  pub BasesStand : Version → Noted → Type 0
+  BasesStand v (Leaf k c) = BaseStands v k c.base
+  BasesStand v (ByteRange t d c) = Unit {0}
+  BasesStand v (ItemRange h d c l) = BasesStand v l
+  BasesStand v (Optional w l) = BasesStand v l
+  BasesStand v (Struct ls) = AllBasesStand v ls
+
+  pub AllBasesStand : Version → AllNoted → Type 0
+  AllBasesStand v NoField = Unit {0}
+  AllBasesStand v (Field i l ls) = BasesStand v l × AllBasesStand v ls
+
 -- the root is a struct; the kinds are a kind tree; the bits make a layout of the version; no leaf has too
--- great a width noted
+-- great a width noted, and none a base that its version has not
 pub record IsNotedLayout (e : FormVersion) (t : Noted) : Type 0 where
   pub root : IsStruct (kinds t)
   pub kind_tree : IsKindTree (kinds t)
   pub coded : OfVersion (version_of e) (layout_in (version_of e) t)
   pub legal : Legal (layout_in (version_of e) t)
   pub noted : Legal (layout_in (version_of e) (settled t))
+  pub based : BasesStand (version_of e) t

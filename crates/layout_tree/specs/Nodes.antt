@@ -1,9 +1,10 @@
 -- What a `Layouts` tells: a layout with its version and whether it is relaxed, and the layout that settling
 -- would make.
-use Rattle.std.specs.Prelude.{◌≡◌, ℕ, ◌<◌, List}
+use Rattle.std.specs.Prelude.{◌≡◌, ℕ, ◌<◌, List, Option, option_map, slice_get}
 use Rattle.frozen_model.specs.Trees.{Part, nodes}
 use Rattle.frozen_model.specs.Layouts.{Layout, Described, described}
 use Rattle.layout_tree.specs.declared.layouts.Layouts.{Layouts}
+use Rattle.layout_tree.specs.declared.node.Kind.{Kind}
 use Rattle.layout_tree.specs.declared.node.NodeSpec.{NodeSpec}
 use Rattle.layout_tree.specs.Given.{shown_nodes}
 use Rattle.layout_tree.specs.Listing.{Noted, tree_of, layout_in, settled, sub, version_of}
@@ -40,3 +41,7 @@ at l n = layout_in (version_of l.version) (sub (noted_in l) n)
 -- all nodes in preorder, each with the width that is noted for it
 abbrev pub listed : Layouts → List NodeSpec
 listed l = shown_nodes (noted_in l)
+
+-- the kind of the node of a number: of a struct that is the item of a map it is that of a pair
+abbrev pub kind_of_node : Layouts → ℕ → Option Kind
+kind_of_node l n = option_map (λ s. s.kind) (slice_get (listed l) n)

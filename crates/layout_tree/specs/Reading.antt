@@ -82,6 +82,11 @@ base_of (Unsigned w) = pos 0
 base_of (TwosComplement w) = pos 0
 base_of (FromBase b w) = b
 
+-- the base of a leaf, 0 where it has none, and 0 of any other layout
+abbrev pub base_at : Layout → ℤ
+base_at (Leaf k c) = base_of c
+base_at _ = pos 0
+
 -- the number of a field's node, where the first field's is i
 abbrev pub field_node : {A B : Type 0} → Trees A B → ℕ → ℤ → Option ℕ
 field_node NoField i id = None

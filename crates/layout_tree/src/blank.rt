@@ -10,8 +10,8 @@ ghost use Rattle.type_kinds.specs.KindsOf.{kinds_of};
 ghost use Rattle.frozen_model.specs.Trees.{Optional};
 ghost use Rattle.layout_tree.specs.declared.node.NodeSpec.{NodeSpec};
 ghost use Rattle.layout_tree.specs.Listing.{spec};
-ghost use Rattle.layout_tree.specs.Nodes.{layout_of, IsSettled};
-ghost use Rattle.layout_tree.specs.Shapes.{shape_of, CanAdd, Adds, RowIs, range_nodes, field_kinds};
+ghost use Rattle.layout_tree.specs.Nodes.{layout_of, noted_in, IsSettled};
+ghost use Rattle.layout_tree.specs.Shapes.{blank, shape_of, CanAdd, Adds, RowIs, range_nodes, field_kinds};
 ghost use Rattle.layout_tree.specs.Shapes.{marked};
 
 use crate::layouts::Layouts;
@@ -222,6 +222,7 @@ fn add_optional(
 pub fn shape(alloc: Global, def: &Definition) -> Result<Layouts, AllocError>
     ensures layout { IfOk result (λ l. layout_of l ≡ shape_of (kinds_of (root_of (definition_of def.now)))) }
     ensures settled { IfOk result (λ l. IsSettled l) }
+    ensures noted { IfOk result (λ l. noted_in l ≡ blank (kinds_of (root_of (definition_of def.now)))) }
 {
     roots_have_kinds();
     let mut nodes = Vec::new(alloc);

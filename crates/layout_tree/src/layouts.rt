@@ -25,17 +25,18 @@ pub struct Layouts {
 }
 
 impl Layouts {
-    ghost use Rattle.std.specs.Prelude.{◌+◌, ◌≤◌, ◌*◌, ◌^◌, ℕ, ℤ, max, IsTrue, ◌↔◌, slice_get};
-    ghost use Rattle.frozen_model.specs.Trees.{LeafKind, Leaf, nodes as count_nodes};
-    ghost use Rattle.frozen_model.specs.Layouts.{FromBase, Version2, Described, stride as stride_in};
+    ghost use Rattle.std.specs.Prelude.{◌+◌, ◌≤◌, ◌*◌, ◌^◌, ℕ, max, IsTrue, ◌↔◌, slice_get, Some};
+    ghost use Rattle.frozen_model.specs.Trees.{nodes as count_nodes};
+    ghost use Rattle.frozen_model.specs.Layouts.{Version2, Described, stride as stride_in};
     ghost use Rattle.frozen_model.specs.Packing.{bytes_for};
-    ghost use Rattle.layout_tree.specs.Given.{IsListOf, ListsLayout};
+    ghost use Rattle.layout_tree.specs.Given.{IsListOf, ListsLayout, noted_from};
+    ghost use Rattle.layout_tree.specs.Listing.{settled};
     ghost use Rattle.layout_tree.specs.Nodes.{IsNode, at, noted_in, layout_of, settled_of, IsSettled};
-    ghost use Rattle.layout_tree.specs.Nodes.{IsNumber, listed};
+    ghost use Rattle.layout_tree.specs.Nodes.{IsNumber, listed, kind_of_node};
     ghost use Rattle.layout_tree.specs.Segments.{Inside};
     ghost use Rattle.layout_tree.specs.Noting.{LeafAt, noted_at, wide_at};
     ghost use Rattle.layout_tree.specs.Basing.{BaseAt, based_at, whole_at};
-    ghost use Rattle.layout_tree.specs.Reading.{plain, kind_at, IsLeaf, IsRange, IsOptional, distance_width};
+    ghost use Rattle.layout_tree.specs.Reading.{plain, kind_at, base_at, IsLeaf, IsRange, IsOptional, distance_width};
     ghost use Rattle.layout_tree.specs.Reading.{count_width, isset_width, item_stride, IsStruct, child_of};
 
     /// The layout of this version, 1 or 2, that the nodes are the list of, each leaf's width noted as it is.
@@ -44,6 +45,8 @@ impl Layouts {
         requires { ListsLayout nodes.items version relaxed }
         ensures layout { (d : Described) → IsListOf d nodes.items version relaxed → layout_of result ≡ d }
         ensures settled { IsSettled result }
+        ensures noted { (d : Described) → IsListOf d nodes.items version relaxed
+            → noted_in result ≡ noted_from d.tree }
     {
         mark_part(&mut nodes, 0);
         Layouts {
@@ -80,11 +83,12 @@ impl Layouts {
         self.relaxed
     }
 
-    /// The kind of a node.
+    /// The kind of a node. A struct that is the item of a map is a pair, and any other is a struct.
     #[inline]
     pub fn kind(&self, node: u32) -> Kind
         requires { IsNode self.now node }
-        ensures { plain result ≡ kind_at (at self.now node) }
+        ensures kind { plain result ≡ kind_at (at self.now node) }
+        ensures told { kind_of_node self.now node ≡ Some result }
     {
         self.nodes[node as usize].kind
     }
@@ -108,11 +112,11 @@ impl Layouts {
         is_whole_kind(self.nodes[node as usize].kind)
     }
 
-    /// The base of a leaf that has one.
+    /// The base of a leaf; 0 where it has none, and where the node is no leaf.
     #[inline]
     pub fn base(&self, node: u32) -> i64
         requires { IsNode self.now node }
-        ensures { (k : LeafKind) (b : ℤ) (w : ℕ) → at self.now node ≡ Leaf k (FromBase b w) → result ≡ b }
+        ensures { result ≡ base_at (at self.now node) }
     {
         let spec = self.nodes[node as usize];
         spec.base
@@ -315,6 +319,7 @@ impl Layouts {
     pub fn settle(&mut self)
         ensures layout { layout_of self.new ≡ settled_of self.old }
         ensures settled { IsSettled self.new }
+        ensures noted { noted_in self.new ≡ settled (noted_in self.old) }
     {
         settle_part(&mut self.nodes, 0, 0);
     }

@@ -10,13 +10,14 @@ use std::alloc::{AllocError, Global};
 impl Layouts {
     ghost use Rattle.std.specs.Prelude.{IfOk};
     ghost use Rattle.frozen_model.specs.Trees.{kinds};
-    ghost use Rattle.layout_tree.specs.Nodes.{layout_of, IsSettled};
-    ghost use Rattle.layout_tree.specs.Shapes.{shape_of};
+    ghost use Rattle.layout_tree.specs.Nodes.{layout_of, noted_in, IsSettled};
+    ghost use Rattle.layout_tree.specs.Shapes.{blank as blank_tree, shape_of};
 
     /// The relaxed layout of version 2 over the kind tree of another layout, with all widths and bases 0.
     pub fn blank(alloc: Global, from: &Layouts) -> Result<Layouts, AllocError>
         ensures layout { IfOk result (λ l. layout_of l ≡ shape_of (kinds (layout_of from.now).tree)) }
         ensures settled { IfOk result (λ l. IsSettled l) }
+        ensures noted { IfOk result (λ l. noted_in l ≡ blank_tree (kinds (layout_of from.now).tree)) }
     {
         let count = from.nodes.len();
         let mut nodes = Vec::with_capacity(alloc, count)?;

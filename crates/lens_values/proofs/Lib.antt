@@ -1,4 +1,6 @@
 pub mod Counting
 pub mod FlatTypes
 pub mod LensParts
+pub mod KeyRanks
+pub mod PutStructs
 pub mod Written

@@ -1,3 +1,4 @@
 pub mod Flat
+pub mod Putting
 pub mod Thaws
 pub mod Writing

@@ -3,6 +3,7 @@
 use crate::contents::{freeze_value, frozen, has_contents};
 use crate::passes::{first_pass, first_shape, range_passes, width};
 use crate::values::{definition, fault_line, respelled, value, with_zeros};
+use block_region::Region;
 use std::test::Fail;
 
 /// Values of each kind are packed to the contents worked out by hand, under layouts with the widths worked
@@ -307,5 +308,17 @@ fn passes_over_ranges(rt: HostRuntime) -> Result<(), Fail> {
     assert!(rt; answers.first);
     assert!(rt; !answers.second);
     assert!(rt; answers.same);
+    Ok(())
+}
+
+/// A region of three bytes has no block of four, and keeps its three for the next.
+#[test]
+fn three_bytes_are_not_four(rt: HostRuntime) -> Result<(), Fail> {
+    let mut region = Region::reserve(rt.alloc(), 3)?;
+    assert!(rt; region.take(4).is_none());
+    let block = region.take(3).ok_or("three bytes")?;
+    assert_eq!(rt; region.left(), 0);
+    assert_eq!(rt; region.bytes(&block), [0, 0, 0].as_slice());
+    assert_eq!(rt; region.finish().as_slice(), [0, 0, 0].as_slice());
     Ok(())
 }

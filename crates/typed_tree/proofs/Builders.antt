@@ -1,12 +1,11 @@
 -- Builders whose pool grew, and whose stack stayed or lost its last numbers.
-use Rattle.std.proofs.Common.{◌≡◌, ℕ, ◌+◌, ◌-◌, ◌≤◌, max, List, [], ◌∷◌, ◌++◌, true, nat_lt, nat_le, vec_len, length, take, drop, map, get_or, refl, sym, ap, ◌∙◌, subst, arith}
-use Rattle.std.specs.List.{list_all}
+use Rattle.std.proofs.Common.{◌≡◌, ℕ, ◌+◌, ◌-◌, ◌≤◌, max, List, [], ◌∷◌, ◌++◌, true, vec_len, length, take, drop, map, get_or, refl, sym, ap, ◌∙◌, arith}
 use Rattle.std.specs.Prelude.{Result, Ok, Err, OnErr, OnOk}
 use Rattle.std.proofs.lemmas.List.{length-map, length-append, take-map, drop-map}
 use Rattle.std.proofs.Math.Seq.{take-append_seam, drop-append_seam}
 use Rattle.std.proofs.lemmas.List.{length-take-le}
 use Rattle.frozen_model.specs.Trees.{AList, ASet, AMap}
-use Rattle.frozen_model.specs.Values.{Value, Absent, Items, Values, And}
+use Rattle.frozen_model.specs.Values.{Value, Absent, Items, And}
 use Rattle.key_order.specs.InOrder.{row}
 use Rattle.typed_tree.specs.declared.builder.Builder.{Builder}
 use Rattle.block_region.specs.Space.{in_use}
@@ -21,12 +20,12 @@ use Rattle.typed_tree.specs.declared.tree.TreeKind.{TreeKind}
 use Rattle.typed_tree.specs.Parts.{pairs}
 use Rattle.typed_tree.specs.Pools.{store_of, values_of, Grows}
 use Rattle.typed_tree.specs.References.{spot_kind}
-use Rattle.typed_tree.specs.Rooms.{room_of, without, greater, HasRoom}
+use Rattle.typed_tree.specs.Rooms.{room_of, without, greater}
 use Rattle.typed_tree.specs.Spots.{Store, store, linked, all_linked, item_link, pick, pair, by_twos, value_of, values, fits_at}
 use Rattle.typed_tree.specs.Trees.{trees_in, kinds_in, trees, kinds, room, last, but_last, Pushes, Joins, IsAsBefore, joined, joined_spot, joined_kind}
 use Rattle.typed_tree.proofs.Grow.{known-stays}
 use Rattle.typed_tree.proofs.Growing.{grows-same}
-use Rattle.typed_tree.proofs.Stack.{below, below-rest-is, rest-is, pick-items, items-fit, trees-front}
+use Rattle.typed_tree.proofs.Stack.{below, below-rest-is, rest-is, pick-items, trees-front}
 
 -- ---- room
 

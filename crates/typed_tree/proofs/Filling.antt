@@ -1,5 +1,5 @@
 -- Builders on which the defaults of the first fields of a struct stand.
-use Rattle.std.proofs.Common.{◌≡◌, ℕ, ◌+◌, ◌-◌, ◌<◌, ◌≤◌, List, [], ◌∷◌, ◌++◌, length, take, drop, map, get_or, Some, refl, sym, ap, ◌∙◌, subst, arith, append_assoc, length-append}
+use Rattle.std.proofs.Common.{◌≡◌, ℕ, ◌+◌, ◌-◌, ◌<◌, ◌≤◌, List, [], ◌∷◌, ◌++◌, length, take, drop, map, get_or, Some, refl, sym, ap, ◌∙◌, subst, arith, append_assoc, length-append, length-take-le, ⊎_elim}
 use Rattle.std.specs.Prelude.{slice_get, unsigned_abs}
 use Rattle.std.specs.List.{sum_by}
 use Rattle.std.proofs.lemmas.List.{take_more, map_push, append-nil, length-map}
@@ -17,8 +17,12 @@ use Rattle.typed_tree.specs.declared.tree.TreeKind.{TreeKind}
 use Rattle.typed_tree.specs.Filled.{natural_ids, struct_with, default_kind}
 use Rattle.typed_tree.specs.Pools.{values_of}
 use Rattle.typed_tree.specs.Rooms.{room_of, without, HasRoom}
-use Rattle.typed_tree.specs.Sizes.{used_by, default_value}
-use Rattle.typed_tree.specs.Trees.{trees, kinds, room, last, but_last, Pushes, Joins}
+use Rattle.typed_tree.specs.Sizes.{used_by, default_value, field_kinds}
+use Rattle.typed_tree.specs.Trees.{trees, kinds, room, but_last, Pushes, Joins}
+use Rattle.frozen_model.specs.Trees.{KindTree}
+use Rattle.type_kinds.specs.KindsOf.{kinds_of}
+use Rattle.typed_tree.specs.Made.{IsMade, FieldsAreMade, Makes}
+use Rattle.typed_tree.proofs.Reading.{le-or-lt}
 use Rattle.typed_tree.proofs.Typed.{sum-push, used_of, nodes_used, bytes_used, used-struct}
 
 -- the room of the defaults of the first so many fields
@@ -27,9 +31,14 @@ used_first t i = let fs = take i (fields_of t) in room_of (sum_by nodes_used fs)
 
 -- the defaults of the first so many fields stand on top
 pub record Fills (old new : Builder) (t : TypeTree) (i : ℕ) : Type 0 where
+  pub kept : (k : ℕ) (l : KindTree) → k < length (trees old) → IsMade old k l → IsMade new k l
+  pub made : FieldsAreMade new (length (trees old)) (fields_of t) i
   pub trees : trees new ≡ trees old ++ map default_value (take i (fields_of t))
   pub kinds : kinds new ≡ kinds old ++ map default_kind (take i (fields_of t))
   pub room : room new ≡ without (room old) (used_first t i)
+
+some-same : {f g : DefField} → Some f ≡ Some g → f ≡ g
+some-same e = cc
 
 module _ (t : TypeTree) (i : ℕ) (f : DefField) (at : slice_get (fields_of t) i ≡ Some f) where
   within : i < length (fields_of t)
@@ -44,15 +53,29 @@ module _ (t : TypeTree) (i : ℕ) (f : DefField) (at : slice_get (fields_of t) i
   map-more : {X : Type 0} (g : DefField → X) → map g (take (i + 1) (fields_of t)) ≡ map g (take i (fields_of t)) ++ g f ∷ []
   map-more g = ap (map g) (take_more (fields_of t) i f within) ∙ map_push g (take i (fields_of t)) (get_or (fields_of t) i f) ∙ ap (λ (h : DefField). map g (take i (fields_of t)) ++ g h ∷ []) here
 
+  so-many : (a b : Builder) → Fills a b t i → length (trees b) ≡ length (trees a) + i
+  so-many a b h = omega (arith, ap (λ us. length us) h.trees, length-append (trees a) (map default_value (take i (fields_of t))), length-map (take i (fields_of t)) default_value, length-take-le i (fields_of t) (omega (arith, within)))
+
   -- one default more
-  pub fills-more : (a b d : Builder) → Fills a b t i → Pushes b d (default_value f) (default_kind f) (used_of f) → Fills a d t (i + 1)
-  fills-more a b d h p =
+  pub fills-more : (a b d : Builder) → Fills a b t i → Pushes b d (default_value f) (default_kind f) (used_of f) → Makes b d 0 (field_kinds f.need f.type) → Fills a d t (i + 1)
+  fills-more a b d h p m =
+      let many = so-many a b h in
       let nodes : b.room.nodes - nodes_used f ≡ a.room.nodes - sum_by nodes_used (take (i + 1) (fields_of t)) = omega (arith, sum-more nodes_used, ap (λ (r : Room). r.nodes) h.room) in
       let bytes : b.room.bytes - bytes_used f ≡ a.room.bytes - sum_by bytes_used (take (i + 1) (fields_of t)) = omega (arith, sum-more bytes_used, ap (λ (r : Room). r.bytes) h.room) in
       record {
         trees = p.trees ∙ ap (λ ts. ts ++ default_value f ∷ []) h.trees ∙ append_assoc (trees a) (map default_value (take i (fields_of t))) (default_value f ∷ []) ∙ ap (λ ts. trees a ++ ts) (sym (map-more default_value));
         kinds = p.kinds ∙ ap (λ ks. ks ++ default_kind f ∷ []) h.kinds ∙ append_assoc (kinds a) (map default_kind (take i (fields_of t))) (default_kind f ∷ []) ∙ ap (λ ks. kinds a ++ ks) (sym (map-more default_kind));
         room = p.room ∙ ap (λ n. room_of n (b.room.bytes - bytes_used f)) nodes ∙ ap (room_of (a.room.nodes - sum_by nodes_used (take (i + 1) (fields_of t)))) bytes;
+        kept = λ k l lt made. m.kept k l (omega (arith, lt, many)) (h.kept k l lt made);
+        made =
+            λ k g lt e.
+            ⊎_elim (λ (low : k < i). m.kept (length (trees a) + k) (field_kinds g.need g.type) (omega (arith, low, many)) (h.made k g low e))
+            (λ (top : i ≤ k).
+            let last : k ≡ i = omega (arith, lt, top) in
+            let same : g ≡ f = some-same (sym e ∙ ap (slice_get (fields_of t)) last ∙ at) in
+            let place : length (trees b) - 0 ≡ length (trees a) + k = omega (arith, many, last) in
+            subst (λ (j : DefField). IsMade d (length (trees a) + k) (field_kinds j.need j.type)) (sym same) (subst (λ n. IsMade d n (field_kinds f.need f.type)) place m.made))
+            (le-or-lt k i);
       }
 
   -- where there is room for all, there is room for one more
@@ -133,6 +156,19 @@ fills-joined a b d t v k is h j same =
       trees = j.trees ∙ ap (λ us. us ++ v ∷ []) (before-added (trees a) (map default_value fs) (trees b) ts n (sym (length-map fs default_value))) ∙ ap (λ w. trees a ++ w ∷ []) same;
       kinds = j.kinds ∙ ap (λ us. us ++ k ∷ []) (before-added (kinds a) (map default_kind fs) (kinds b) ks n (sym (length-map fs default_kind)));
       room = j.room ∙ ap (λ m. room_of m (b.room.bytes - 0)) nodes ∙ ap (room_of (a.room.nodes - (used_by (default_of t)).nodes)) bytes;
+    }
+
+-- and it was made as the type says
+pub fills-made : (a b d : Builder) (t : TypeTree) → Fills a b t (length (fields_of t)) → Makes b d (length (fields_of t)) (kinds_of t) → Makes a d 0 (kinds_of t)
+fills-made a b d t h m =
+    let fs = fields_of t in
+    let many : length (trees b) ≡ length (trees a) + length fs =
+    omega (arith, ap (λ us. length us) h.trees, length-append (trees a) (map default_value (take (length fs) fs)), length-map (take (length fs) fs) default_value, ap (λ (gs : List DefField). length gs) (take-length fs)) in
+    let here : length (trees b) - length fs ≡ length (trees a) - 0 = omega (arith, many) in
+    record {
+      many = m.many ∙ ap (λ n. n + 1) here;
+      kept = λ k l lt made. m.kept k l (omega (arith, lt, here)) (h.kept k l (omega (arith, lt)) made);
+      made = subst (λ n. IsMade d n (kinds_of t)) here m.made;
     }
 
 -- a join of no trees is one tree more

@@ -1,6 +1,6 @@
 -- A pool that grows: what stood there keeps its value, and every node has the value of its parts.
 use Rattle.frozen_model.specs.Trees.{AList, ASet, AMap}
-use Rattle.std.proofs.Common.{◌≡◌, ℕ, zero, suc, ◌+◌, ◌<◌, ◌≤◌, List, [], ◌∷◌, ◌++◌, true, ◌&&◌, nat_lt, nat_le, length, take, drop, map, get_or, refl, sym, ap, ◌∙◌, subst, arith, length-append, length-drop}
+use Rattle.std.proofs.Common.{◌≡◌, ℕ, zero, suc, ◌+◌, ◌<◌, ◌≤◌, List, [], ◌∷◌, ◌++◌, true, nat_lt, nat_le, length, take, drop, map, get_or, refl, sym, ap, ◌∙◌, subst, arith, length-append, length-drop}
 use Rattle.std.specs.List.{list_all}
 use Rattle.std.proofs.Math.ListN.{get_or-append}
 use Rattle.std.proofs.Math.Seq.{get_or-append_seam}
@@ -37,7 +37,7 @@ range-stays xs more first count h =
     ap (take count) (drop-append-le first xs more (omega arith)) ∙ take-append-le count (drop first xs) more room
 
 module _ (old new : Store) (grows : Grows old new) where
-  linked-stays : (n : ℕ) (r : Run) → all_linked old n r ≡ true → linked new r ≡ linked old r
+  pub linked-stays : (n : ℕ) (r : Run) → all_linked old n r ≡ true → linked new r ≡ linked old r
   linked-stays n r h =
       let there = leb-true (r.first + r.count) (length old.links) (and_parts (nat_le (r.first + r.count) (length old.links)) _ h).0 in
       ap (λ (ls : List Link). take r.count (drop r.first ls)) grows.links ∙ range-stays old.links grows.more_links r.first r.count there

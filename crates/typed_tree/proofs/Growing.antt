@@ -1,11 +1,9 @@
 -- Ways in which what nodes refer to grows.
-use Rattle.std.proofs.Common.{◌≡◌, ℕ, ◌+◌, ◌≤◌, List, [], ◌++◌, length, take, drop, refl, sym, ap, ◌∙◌, arith, length-append}
-use Rattle.std.proofs.Math.Seq.{drop-append_seam, take-length, take-append_seam}
+use Rattle.std.proofs.Common.{◌≡◌, ℕ, List, [], ◌++◌, length, take, drop, sym, ap, ◌∙◌}
+use Rattle.std.proofs.Math.Seq.{drop-append_seam, take-length}
 use Rattle.std.proofs.lemmas.List.{append-nil}
-use Rattle.block_region.specs.Space.{Space, Span, in_use, written}
 use Rattle.typed_tree.specs.declared.spot.Link.{Link}
-use Rattle.typed_tree.specs.declared.spot.Run.{Run}
-use Rattle.typed_tree.specs.Spots.{Store, store, part, linked}
+use Rattle.typed_tree.specs.Spots.{Store, store}
 use Rattle.typed_tree.specs.Pools.{Grows}
 
 -- what was added at the end is the last part

@@ -1,10 +1,10 @@
 -- Keys on a stack, and the nodes at the places of entries.
-use Rattle.std.proofs.Common.{◌≡◌, ◌≢◌, ℕ, true, suc, ◌+◌, ◌-◌, ◌<◌, ◌≤◌, vec_len, List, [], ◌∷◌, ◌++◌, nat_lt, length, map, get_or, take, drop, refl, sym, ap, ◌∙◌, subst, arith, zero-add}
+use Rattle.std.proofs.Common.{◌≡◌, ◌≢◌, ℕ, true, suc, ◌+◌, ◌-◌, ◌<◌, List, [], ◌∷◌, ◌++◌, nat_lt, length, map, get_or, take, drop, refl, sym, ap, ◌∙◌, subst, arith, zero-add}
 use Rattle.std.specs.List.{AllAdjacentBelow, All, AllByRecursion, AllPairs, Contains, enumerate_from}
 use Rattle.std.proofs.Math.ListN.{drop_of_length-le}
 use Rattle.std.proofs.Math.Seq.{take-length}
 use Rattle.std.proofs.lemmas.Bool.{and_from}
-use Rattle.std.proofs.lemmas.List.{append-nil, drop-map, get_or-map, length-map, ext_get_or}
+use Rattle.std.proofs.lemmas.List.{append-nil, get_or-map, length-map, ext_get_or}
 use Rattle.std.proofs.lemmas.List.Elements.{recursion_from_All, Contains-get_or}
 use Rattle.std.proofs.lemmas.List.FromFn.{length-enumerate_from, get_or-enumerate_from}
 use Rattle.std.proofs.lemmas.List.Sorted.{All-permutation, all_adjacent_more, IsPermutation-refl, length_permutation}
@@ -19,14 +19,10 @@ use Rattle.key_order.proofs.Numbered.{numbered_places_differ}
 use Rattle.key_order.proofs.Insertion.{order_moves, rising_keys_are_in_order}
 use Rattle.key_order.proofs.Rising.{rising_keys_differ}
 use Rattle.key_order.proofs.Sorted.{at}
-use Rattle.typed_tree.specs.declared.builder.Builder.{Builder}
-use Rattle.typed_tree.specs.declared.pool.Pool.{Pool}
-use Rattle.typed_tree.specs.Pools.{store_of, values_of}
-use Rattle.typed_tree.specs.Spots.{Store, values}
-use Rattle.typed_tree.specs.Tables.{AreSorted, AreOrdered, picked}
-use Rattle.typed_tree.specs.Trees.{trees_in, trees, last}
+use Rattle.typed_tree.specs.Tables.{AreTaken, AreSorted, AreOrdered, picked}
+use Rattle.typed_tree.specs.Trees.{trees_in}
 use Rattle.typed_tree.proofs.Grow.{below-true}
-use Rattle.typed_tree.proofs.Stack.{below, lt-test, rest-is, trees-back}
+use Rattle.typed_tree.proofs.Stack.{below, lt-test}
 
 pub below-at : (n : ℕ) (ks : List ℕ) (i d : ℕ) → below n ks → i < length ks → get_or ks i d < n
 below-at n ks i d h lt = below-true (get_or ks i d) n (AllPass-from_list_all (λ k. nat_lt k n) ks h i d lt)
@@ -178,3 +174,15 @@ rising-differ ks kind up = let own = own-keys ks kind in subst (λ (ls : List Va
 
 pub length-in_order : (us : List Value) → length (in_order us) ≡ length us
 length-in_order us = length_permutation us (in_order us) (order_moves us)
+
+-- the nodes of a set are among those that were given
+pub taken-places : (ks js : List ℕ) (es : List PlacedKey) → js ≡ nodes-at ks es → All (λ e. e.place < length ks) es → AreTaken ks js
+taken-places ks js es is inside = (places es, is ∙ each es, low es (recursion_from_All (λ e. e.place < length ks) es inside))
+  where
+    each : (es : List PlacedKey) → nodes-at ks es ≡ map (λ p. get_or ks p 0) (places es)
+    each [] = refl
+    each (e ∷ es) = ap (λ ns. get_or ks e.place 0 ∷ ns) (each es)
+
+    low : (es : List PlacedKey) → AllByRecursion (λ e. e.place < length ks) es → AllByRecursion (λ p. p < length ks) (places es)
+    low [] h = tt
+    low (e ∷ es) h = (h.0, low es h.1)

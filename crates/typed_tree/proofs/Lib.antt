@@ -13,3 +13,5 @@ pub mod Written
 pub mod Celled
 pub mod Forms
 pub mod Rest
+pub mod Made
+pub mod Making

@@ -1,10 +1,10 @@
 -- The parts that nodes refer to.
-use Rattle.std.proofs.Common.{◌≡◌, ℕ, zero, suc, ◌+◌, ◌-◌, ◌*◌, ◌/◌, ◌<◌, ◌≤◌, List, [], ◌∷◌, Bool, true, false, ◌==◌, IsTrue, nat_eq, nat_lt, nat_le, length, take, drop, get_or, refl, sym, ap, ◌∙◌, subst, arith, rules, ◌⊎◌, inl, inr}
+use Rattle.std.proofs.Common.{◌≡◌, ℕ, zero, suc, ◌+◌, ◌*◌, ◌/◌, ◌<◌, ◌≤◌, List, [], ◌∷◌, Bool, true, false, IsTrue, nat_eq, nat_lt, nat_le, length, drop, get_or, refl, sym, ap, ◌∙◌, arith, rules, ◌⊎◌, inl, inr}
 use Rattle.std.specs.List.{list_all}
 use Rattle.std.proofs.lemmas.Bool.{and_parts, leb-true}
 use Rattle.std.proofs.lemmas.List.{length-drop, length-take-le}
 use Rattle.std.proofs.lemmas.Bool.Decides.{nat_tests}
-use Rattle.std.specs.Prelude.{map, Option, Some, None}
+use Rattle.std.specs.Prelude.{map, Some, None}
 use Rattle.std.specs.Ordering.{nat_cmp, ordering_index, is_lt}
 use Rattle.std.specs.declared.cmp.Ordering.TheVariants.{Less, Equal, Greater}
 use Rattle.std.specs.List.Sorted.{IsNonDecreasingBy}

@@ -35,12 +35,12 @@ below-wider n m (k ∷ ks) le h =
 pub below-put : (n : ℕ) (ks : List ℕ) (k : ℕ) → k < n → below n ks → below n (ks ++ k ∷ [])
 below-put n ks k lt h = list_all-append (λ j. nat_lt j n) ks (k ∷ []) ∙ and_from _ _ h (and_from _ _ (lt-test k n lt) refl)
 
-below-take : (n : ℕ) (i : ℕ) (ks : List ℕ) → below n ks → below n (take i ks)
+pub below-take : (n : ℕ) (i : ℕ) (ks : List ℕ) → below n ks → below n (take i ks)
 below-take n zero ks h = refl
 below-take n (suc i) [] h = refl
 below-take n (suc i) (k ∷ ks) h = let p = and_parts (nat_lt k n) (list_all (λ k. nat_lt k n) ks) h in and_from _ _ p.0 (below-take n i ks p.1)
 
-below-drop : (n : ℕ) (i : ℕ) (ks : List ℕ) → below n ks → below n (drop i ks)
+pub below-drop : (n : ℕ) (i : ℕ) (ks : List ℕ) → below n ks → below n (drop i ks)
 below-drop n zero ks h = h
 below-drop n (suc i) [] h = refl
 below-drop n (suc i) (k ∷ ks) h = below-drop n i ks (and_parts (nat_lt k n) (list_all (λ k. nat_lt k n) ks) h).1

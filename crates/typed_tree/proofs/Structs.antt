@@ -65,7 +65,7 @@ all-inserted P l (k ∷ ks) h g = by (all-inserted P l ks h g.1) (nat_lt k.id l.
     by rest true = (g.0, rest)
     by rest false = (h, g)
 
-all-in_order : (P : Link → Type 0) (ls : List Link) → AllByRecursion P ls → AllByRecursion P (in_order nat_lt id ls)
+pub all-in_order : (P : Link → Type 0) (ls : List Link) → AllByRecursion P ls → AllByRecursion P (in_order nat_lt id ls)
 all-in_order P [] h = tt
 all-in_order P (l ∷ ls) h = all-inserted P l (in_order nat_lt id ls) h.0 (all-in_order P ls h.1)
 

@@ -1,17 +1,16 @@
 -- Types as finite trees: their fields are smaller, and sums over them go field by field.
-use Rattle.std.proofs.Common.{◌≡◌, ℕ, zero, suc, ◌+◌, ◌<◌, ◌≤◌, min, List, [], ◌∷◌, length, take, get_or, Some, refl, sym, ap, ◌∙◌, subst, arith}
+use Rattle.std.proofs.Common.{◌≡◌, ℕ, zero, suc, ◌+◌, ◌<◌, ◌≤◌, List, [], length, take, get_or, Some, refl, sym, ap, ◌∙◌, arith}
 use Rattle.std.specs.List.{sum_by, slice_get}
 use Rattle.std.specs.Prelude.{ℤ}
 use Rattle.std.proofs.lemmas.List.{take_more}
 use Rattle.std.proofs.lemmas.List.Sums.{sum_by-cons, sum_by_push}
 use Rattle.idl_profile.specs.declared.kinds.Need.{Need}
-use Rattle.idl_profile.specs.Types.{Default, flag_default, int_default, text_default}
+use Rattle.idl_profile.specs.Types.{Default}
 use Rattle.std.proofs.lemmas.Option.{slice_get_within, get_or_from_slice_get}
 use Rattle.idl_profile.specs.declared.kinds.Need.TheVariants.{Plain, Required, Optional}
 use Rattle.idl_profile.specs.declared.kinds.TypeKind.TheVariants as kinds
-use Rattle.idl_profile.specs.Types.{TypeTree, scalar, text, bytes, list_of, set_of, map_of, named, Named, enum_of, struct_of, Fields, no_fields, field, DefField, field_list, fields_of, kind_of, Scalar, flag, i8, i16, i32, i64}
-use Rattle.std.specs.Prelude.{Bool}
-use Rattle.frozen_model.specs.Values.{Truth, Number, One, Bytes, inline_cells, inline_cells_all, cells, cells_all}
+use Rattle.idl_profile.specs.Types.{TypeTree, scalar, text, bytes, list_of, set_of, map_of, named, Named, enum_of, struct_of, Fields, no_fields, field, DefField, field_list, fields_of, kind_of, flag, i8, i16, i32, i64}
+use Rattle.frozen_model.specs.Values.{inline_cells, inline_cells_all, cells, cells_all}
 use Rattle.type_kinds.specs.KindsOf.{kinds_of, kinds_of_fields}
 use Rattle.type_kinds.specs.Defaults.{default_of, defaults_of, by_need, written}
 use Rattle.typed_tree.specs.declared.room.Room.{Room}

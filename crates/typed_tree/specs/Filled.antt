@@ -4,7 +4,7 @@ use Rattle.idl_profile.specs.declared.kinds.Need.{Need}
 use Rattle.idl_profile.specs.declared.kinds.Need.TheVariants.{Plain, Required, Optional}
 use Rattle.idl_profile.specs.declared.kinds.TypeKind.{TypeKind}
 use Rattle.idl_profile.specs.declared.kinds.TypeKind.TheVariants as t
-use Rattle.idl_profile.specs.Types.{TypeTree, DefField, fields_of, kind_of}
+use Rattle.idl_profile.specs.Types.{TypeTree, DefField, kind_of}
 use Rattle.frozen_model.specs.Values.{Value, Record}
 use Rattle.key_order.specs.InOrder.{row}
 use Rattle.typed_tree.specs.declared.spot.Link.{Link}

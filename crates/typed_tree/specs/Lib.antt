@@ -10,3 +10,4 @@ pub mod Sizes
 pub mod Ranges
 pub mod Filled
 pub mod Heights
+pub mod Made

@@ -1,5 +1,5 @@
 -- The parts of values.
-use Rattle.std.specs.Prelude.{◌≡◌, ℕ, ℤ, List, [], ◌∷◌, if◌then◌else◌, Option, Some, None, nat_eq}
+use Rattle.std.specs.Prelude.{ℕ, ℤ, List, [], ◌∷◌, if◌then◌else◌, Option, Some, None, nat_eq}
 use Rattle.std.specs.Str.{IsUtf8}
 use Rattle.frozen_model.specs.Trees.{AList, ASet, AMap}
 use Rattle.frozen_model.specs.Values.{Truth, Number, Value, One, Bytes, Items, Present, Record, Values, NoValue, And}

@@ -1,7 +1,7 @@
 -- Keys that become those of a set or a map.
 use Rattle.std.specs.Prelude.{◌≡◌, ◌≢◌, ℕ, ◌<◌, ◌+◌, ◌*◌, slice_index, List, [], ◌∷◌, length, map, slice_index_or}
 use Rattle.std.specs.Prelude.{Result, MatchResult, AllPairs, All}
-use Rattle.std.specs.List.{enumerate_from}
+use Rattle.std.specs.List.{AllByRecursion, enumerate_from}
 use Rattle.std.specs.List.Sorted.{IsPermutation}
 use Rattle.frozen_model.specs.Values.{Value, Absent, key_of}
 use Rattle.key_order.specs.declared.repeats.PlacedKey.{PlacedKey}
@@ -46,3 +46,11 @@ evens _ = []
 abbrev pub turned : List ℕ → List ℕ → List ℕ
 turned ks [] = []
 turned ks (p ∷ ps) = slice_index ks (2 * p) ∷ slice_index ks (2 * p + 1) ∷ turned ks ps
+
+-- each of these numbers is one of those
+abbrev pub AreTaken : List ℕ → List ℕ → Type 0
+AreTaken ks js = (ps : List ℕ) × (js ≡ map (λ p. slice_index_or ks p 0) ps) × AllByRecursion (λ p. p < length ks) ps
+
+-- these keys and values by turns are pairs of those
+abbrev pub AreTakenByTurns : List ℕ → List ℕ → Type 0
+AreTakenByTurns ks js = (ps : List ℕ) × (js ≡ turned ks ps) × AllByRecursion (λ p. 2 * p + 1 < length ks) ps

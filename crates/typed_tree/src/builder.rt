@@ -35,6 +35,8 @@ impl Builder {
     ghost use Rattle.typed_tree.specs.Pools.{store_of, values_of, Grows};
     ghost use Rattle.typed_tree.specs.References.{value_of_tree, kind_of_tree, spot_kind};
     ghost use Rattle.typed_tree.specs.Rooms.{HasRoom, greater, room_of};
+    ghost use Rattle.typed_tree.specs.Made.{MadeAs, Makes, IsMade, TreeIsMade};
+    ghost use Rattle.frozen_model.specs.Trees.{KindTree};
     ghost use Rattle.typed_tree.specs.Trees.{trees_in, trees, kinds, room, joined, joined_kind, Pushes, IsAsBefore};
 
     /// An empty stack without room.
@@ -126,6 +128,8 @@ impl Builder {
         requires fit { fits_at (store_of self.old.pool) (length self.old.pool.nodes.items) spot ≡ true }
         ensures pushed { Pushes self.old self.new (value_of (store_of self.old.pool) (values_of self.old.pool) spot)
             (spot_kind spot) (room_of 1 0) }
+        ensures made { (t : KindTree) → MadeAs (store_of self.old.pool) self.old.pool.nodes.items t spot
+            → Makes self.old self.new 0 t }
     {
         let number = self.pool.nodes.len() as u32;
         self.pool.put(spot);
@@ -139,6 +143,8 @@ impl Builder {
         ensures pushed { OnOk result (Pushes self.old self.new
             (value_of (store_of self.old.pool) (values_of self.old.pool) spot)
             (spot_kind spot) (room_of 1 0)) }
+        ensures made { (t : KindTree) → MadeAs (store_of self.old.pool) self.old.pool.nodes.items t spot
+            → OnOk result (Makes self.old self.new 0 t) }
         ensures failed { OnErr result (IsAsBefore self.old self.new) }
         ensures enough { HasRoom (room self.old) (room_of 1 0) → IsOk result }
     {
@@ -152,6 +158,7 @@ impl Builder {
         requires { length (trees self) ≡ 1 }
         ensures tree { trees self ≡ value_of_tree result ∷ [] }
         ensures kind { kinds self ≡ kind_of_tree result ∷ [] }
+        ensures made { (t : KindTree) → IsMade self 0 t → TreeIsMade t result }
     {
         let Builder {
             pool,

@@ -7,7 +7,7 @@ ghost use Rattle.key_order.specs.InOrder.{in_order};
 ghost use Rattle.typed_tree.specs.Parts.{pairs};
 ghost use Rattle.typed_tree.specs.Pools.{values_of};
 ghost use Rattle.typed_tree.specs.Trees.{trees_in};
-ghost use Rattle.typed_tree.specs.Tables.{evens, turned, TellsRepeat};
+ghost use Rattle.typed_tree.specs.Tables.{AreTakenByTurns, evens, turned, TellsRepeat};
 
 use crate::fault::TableFault;
 use crate::order::{is_before, places_in_order};
@@ -63,6 +63,7 @@ pub fn entries_in_order(alloc: Global, pool: &Pool, nodes: &[u32]) -> Result<Vec
     ensures even { IfOk result (λ ks. length ks.items
         ≡ 2 * length (pairs (trees_in (values_of pool.now) ks.items))) }
     ensures still { IfOk result (λ ks. list_all (λ k. nat_lt k (length pool.now.nodes.items)) ks.items ≡ true) }
+    ensures taken { IfOk result (λ ks. AreTakenByTurns nodes.now ks.items) }
     ensures repeated { TellsRepeat (map key_of (pairs (trees_in (values_of pool.now) nodes.now))) result }
 {
     let keys = key_nodes(alloc, nodes)?;

@@ -5,7 +5,9 @@ ghost use Rattle.idl_profile.specs.Types.{kind_of};
 ghost use Rattle.idl_parse.specs.Refs.{type_of_ref, field_of_ref};
 ghost use Rattle.type_kinds.specs.Defaults.{default_of as own_default};
 ghost use Rattle.typed_tree.specs.References.{value_of_tree, kind_of_tree};
-ghost use Rattle.typed_tree.specs.Sizes.{default_value};
+ghost use Rattle.typed_tree.specs.Sizes.{default_value, field_kinds};
+ghost use Rattle.typed_tree.specs.Made.{TreeIsMade};
+ghost use Rattle.type_kinds.specs.KindsOf.{kinds_of};
 ghost use Rattle.typed_tree.specs.Filled.{default_kind, made_as};
 
 use crate::builder::Builder;
@@ -24,6 +26,8 @@ impl Builder {
     ghost use Rattle.typed_tree.specs.Rooms.{HasRoom, room_of};
     ghost use Rattle.typed_tree.specs.Sizes.{used_by};
     ghost use Rattle.typed_tree.specs.Filled.{struct_with};
+    ghost use Rattle.typed_tree.specs.Made.{Makes, FieldsAreMade, holder_of};
+    ghost use Rattle.frozen_model.specs.Trees.{KindTree, ItemRange};
     ghost use Rattle.typed_tree.specs.Trees.{room, trees, joined, joined_kind, Pushes, Joins, IsAsBefore};
 
     /// Puts what the field has that nobody gave: absent where it is optional; else its written default, and else what
@@ -32,6 +36,8 @@ impl Builder {
     pub fn fill(&mut self, field: FieldRef<'_>) -> Result<(), AllocError>
         ensures pushed { let f = field_of_ref field.entry in
             OnOk result (Pushes self.old self.new (default_value f) (default_kind f) (used_by (default_value f))) }
+        ensures made { let f = field_of_ref field.entry in
+            OnOk result (Makes self.old self.new 0 (field_kinds f.need f.type)) }
         ensures failed { OnErr result (IsAsBefore self.old self.new) }
         ensures enough { HasRoom (room self.old) (used_by (default_value (field_of_ref field.entry))) → IsOk result }
     {
@@ -44,8 +50,9 @@ impl Builder {
     #[cycle(fill)]
     fn put_default(&mut self, field: FieldRef<'_>)
         requires { HasRoom self.old.room (used_by (default_value (field_of_ref field))) }
-        ensures { let f = field_of_ref field.entry in
+        ensures pushed { let f = field_of_ref field.entry in
             Pushes self.old self.new (default_value f) (default_kind f) (used_by (default_value f)) }
+        ensures made { let f = field_of_ref field.entry in Makes self.old self.new 0 (field_kinds f.need f.type) }
     {
         match field.need() {
             Need::Optional => self.put(Spot::Absent),
@@ -59,8 +66,9 @@ impl Builder {
     fn put_written(&mut self, field: FieldRef<'_>)
         requires { let f = field_of_ref field in
             HasRoom self.old.room (used_by (written f.default (own_default f.type))) }
-        ensures { let f = field_of_ref field.entry in let v = written f.default (own_default f.type) in
+        ensures pushed { let f = field_of_ref field.entry in let v = written f.default (own_default f.type) in
             Pushes self.old self.new v (made_as (kind_of f.type)) (used_by v) }
+        ensures made { Makes self.old self.new 0 (kinds_of (field_of_ref field.entry).type) }
     {
         match field.default() {
             DefaultRef::Flag(x) => self.put(Spot::Flag(x)),
@@ -78,8 +86,9 @@ impl Builder {
     #[cycle(fill)]
     fn put_own_default(&mut self, ty: TypeRef<'_>)
         requires { HasRoom self.old.room (used_by (own_default (type_of_ref ty))) }
-        ensures { let t = type_of_ref ty.entry in
+        ensures pushed { let t = type_of_ref ty.entry in
             Pushes self.old self.new (own_default t) (made_as (kind_of t)) (used_by (own_default t)) }
+        ensures made { Makes self.old self.new 0 (kinds_of (type_of_ref ty.entry)) }
     {
         match ty.kind() {
             TypeKind::Flag => self.put(Spot::Flag(false)),
@@ -102,8 +111,9 @@ impl Builder {
     fn put_struct(&mut self, ty: TypeRef<'_>)
         requires kind { kind_of (type_of_ref ty) ≡ TypeKind.Struct }
         requires room { HasRoom self.old.room (used_by (own_default (type_of_ref ty))) }
-        ensures { let t = type_of_ref ty.entry in
+        ensures pushed { let t = type_of_ref ty.entry in
             Pushes self.old self.new (own_default t) made.Struct (used_by (own_default t)) }
+        ensures made { Makes self.old self.new 0 (kinds_of (type_of_ref ty.entry)) }
     {
         let base = self.stack.len();
         for i in 0..ty.field_count() {
@@ -115,7 +125,8 @@ impl Builder {
     // Puts a list, a set or a map without items, where there is room for it.
     fn put_empty(&mut self, to: Joined)
         requires { 0 < self.old.room.nodes }
-        ensures { Pushes self.old self.new (joined to []) (joined_kind to) (room_of 1 0) }
+        ensures pushed { Pushes self.old self.new (joined to []) (joined_kind to) (room_of 1 0) }
+        ensures made { (t : KindTree) → Makes self.old self.new 0 (ItemRange (holder_of to) tt tt t) }
     {
         let base = self.stack.len();
         self.join(base, to);
@@ -126,8 +137,10 @@ impl Builder {
         requires kind { kind_of (type_of_ref ty) ≡ TypeKind.Struct }
         requires room { 0 < self.old.room.nodes }
         requires as_many { base + length (fields_of (type_of_ref ty)) ≡ length self.old.stack.items }
-        ensures { let fs = fields_of (type_of_ref ty.entry) in
+        ensures joined { let fs = fields_of (type_of_ref ty.entry) in
             Joins self.old self.new (length fs) (struct_with fs (drop base (trees self.old))) made.Struct (room_of 1 0) }
+        ensures made { let fs = fields_of (type_of_ref ty.entry) in FieldsAreMade self.old base fs (length fs)
+            → Makes self.old self.new (length fs) (kinds_of (type_of_ref ty.entry)) }
     {
         let run = self.pool.add_type_links(ty, &self.stack[base..]);
         self.stack.truncate(base);
@@ -139,6 +152,7 @@ impl Builder {
 pub fn default_field(alloc: Global, field: FieldRef<'_>) -> Result<Tree, AllocError>
     ensures value { IfOk result (λ t. value_of_tree t ≡ default_value (field_of_ref field.entry)) }
     ensures kind { IfOk result (λ t. kind_of_tree t ≡ default_kind (field_of_ref field.entry)) }
+    ensures made { let f = field_of_ref field.entry in IfOk result (TreeIsMade (field_kinds f.need f.type)) }
 {
     let mut builder = Builder::new(alloc);
     builder.fill(field)?;
@@ -149,6 +163,7 @@ pub fn default_field(alloc: Global, field: FieldRef<'_>) -> Result<Tree, AllocEr
 pub fn default_of(alloc: Global, ty: TypeRef<'_>) -> Result<Tree, AllocError>
     ensures value { IfOk result (λ t. value_of_tree t ≡ own_default (type_of_ref ty.entry)) }
     ensures kind { IfOk result (λ t. kind_of_tree t ≡ made_as (kind_of (type_of_ref ty.entry))) }
+    ensures made { IfOk result (TreeIsMade (kinds_of (type_of_ref ty.entry))) }
 {
     let mut builder = Builder::new(alloc);
     builder.make_room(type_room(ty))?;

@@ -8,7 +8,7 @@ ghost use Rattle.key_order.specs.InOrder.{in_order};
 ghost use Rattle.typed_tree.specs.Pools.{values_of};
 ghost use Rattle.typed_tree.specs.References.{value_at};
 ghost use Rattle.typed_tree.specs.Trees.{trees_in};
-ghost use Rattle.typed_tree.specs.Tables.{AreSorted, AreOrdered, TellsRepeat};
+ghost use Rattle.typed_tree.specs.Tables.{AreTaken, AreSorted, AreOrdered, TellsRepeat};
 
 use crate::fault::TableFault;
 use crate::pool::Pool;
@@ -100,6 +100,7 @@ pub fn keys_in_order(alloc: Global, pool: &Pool, nodes: &[u32]) -> Result<Vec<u3
     ensures ordered { IfOk result (λ ks. trees_in (values_of pool.now) ks.items
         ≡ in_order (trees_in (values_of pool.now) nodes.now)) }
     ensures still { IfOk result (λ ks. list_all (λ k. nat_lt k (length pool.now.nodes.items)) ks.items ≡ true) }
+    ensures taken { IfOk result (λ ks. AreTaken nodes.now ks.items) }
     ensures repeated { TellsRepeat (trees_in (values_of pool.now) nodes.now) result }
 {
     let entries = sorted_entries(alloc, pool, nodes)?;

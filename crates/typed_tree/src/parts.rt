@@ -45,6 +45,10 @@ impl Builder {
     ghost use Rattle.typed_tree.specs.Parts.{pairs};
     ghost use Rattle.typed_tree.specs.declared.tree.TreeKind.TheVariants as made;
     ghost use Rattle.typed_tree.specs.Rooms.{HasRoom, room_of};
+    ghost use Rattle.typed_tree.specs.Ranges.{pair_kinds};
+    ghost use Rattle.typed_tree.specs.Parts.{ids_of};
+    ghost use Rattle.typed_tree.specs.Made.{Makes, IsMade, AreMade, AreMadeByTurns, AreMadeUnder, ItemsAreMade, holder_of};
+    ghost use Rattle.frozen_model.specs.Trees.{KindTree, KindTrees, ItemRange, Optional, Struct, ids_of as ids_of_kinds};
     ghost use Rattle.typed_tree.specs.Tables.{TellsRepeat};
     ghost use Rattle.typed_tree.specs.Trees.{trees_in, trees, kinds, room, last, joined, joined_kind, Pushes, Joins};
     ghost use Rattle.typed_tree.specs.Trees.{IsAsBefore};
@@ -57,6 +61,8 @@ impl Builder {
         ensures wrapped { OnOk result (Joins self.old self.new 1
             (Present (slice_index_or (last 1 (trees self.old)) 0 Absent))
             made.Present (room_of 1 0)) }
+        ensures made { (t : KindTree) → IsMade self.old (length (trees self.old) - 1) t
+            → OnOk result (Makes self.old self.new 1 (Optional tt t)) }
         ensures failed { OnErr result (IsAsBefore self.old self.new) }
         ensures enough { HasRoom (room self.old) (room_of 1 0) → IsOk result }
     {
@@ -72,8 +78,10 @@ impl Builder {
     pub(crate) fn join(&mut self, base: usize, to: Joined)
         requires room { 0 < self.old.room.nodes }
         requires base { base ≤ length self.old.stack.items }
-        ensures { Joins self.old self.new (length self.old.stack.items - base) (joined to (drop base (trees self.old)))
-            (joined_kind to) (room_of 1 0) }
+        ensures joined { Joins self.old self.new (length self.old.stack.items - base)
+            (joined to (drop base (trees self.old))) (joined_kind to) (room_of 1 0) }
+        ensures made { (t : KindTree) → ItemsAreMade to self.old t (drop base self.old.stack.items)
+            → Makes self.old self.new (length self.old.stack.items - base) (ItemRange (holder_of to) tt tt t) }
     {
         let run = self.pool.add_items(&self.stack[base..]);
         self.stack.truncate(base);
@@ -85,6 +93,8 @@ impl Builder {
         requires { n ≤ length (trees self.old) }
         ensures joined { OnOk result (Joins self.old self.new n
             (Items AList (row (last n (trees self.old)))) made.List (room_of 1 0)) }
+        ensures made { (t : KindTree) → AreMade self.old (length (trees self.old) - n) n t
+            → OnOk result (Makes self.old self.new n (ItemRange AList tt tt t)) }
         ensures failed { OnErr result (IsAsBefore self.old self.new) }
         ensures enough { HasRoom (room self.old) (room_of 1 0) → IsOk result }
     {
@@ -101,6 +111,8 @@ impl Builder {
         requires as_many { base + length nodes.now ≤ length self.old.stack.items }
         ensures joined { OnOk result (Joins self.old self.new (length self.old.stack.items - base)
             (joined to (trees_in (values_of self.old.pool) nodes.now)) (joined_kind to) (room_of 1 0)) }
+        ensures made { (t : KindTree) → ItemsAreMade to self.old t nodes.now → OnOk result
+            (Makes self.old self.new (length self.old.stack.items - base) (ItemRange (holder_of to) tt tt t)) }
         ensures failed { OnErr result (IsAsBefore self.old self.new) }
     {
         self.make_room(Room::ONE_NODE)?;
@@ -117,6 +129,8 @@ impl Builder {
         ensures joined { OnOk result (Joins self.old self.new n
             (Items ASet (row (in_order (last n (trees self.old))))) made.Set
             (room_of 1 0)) }
+        ensures made { (t : KindTree) → AreMade self.old (length (trees self.old) - n) n t
+            → OnOk result (Makes self.old self.new n (ItemRange ASet tt tt t)) }
         ensures repeated { TellsRepeat (last n (trees self.old)) result }
         ensures failed { OnErr result (IsAsBefore self.old self.new) }
     {
@@ -140,6 +154,9 @@ impl Builder {
         ensures joined { OnOk result (Joins self.old self.new (2 * n)
             (Items AMap (row (in_order (pairs (last (2 * n) (trees self.old))))))
             made.Map (room_of 1 0)) }
+        ensures made { (key value : KindTree)
+            → AreMadeByTurns self.old (length (trees self.old) - 2 * n) n key value
+            → OnOk result (Makes self.old self.new (2 * n) (ItemRange AMap tt tt (pair_kinds key value))) }
         ensures repeated { TellsRepeat (map key_of (pairs (last (2 * n) (trees self.old)))) result }
         ensures failed { OnErr result (IsAsBefore self.old self.new) }
     {
@@ -161,6 +178,10 @@ impl Builder {
         requires there { length ids.now ≤ length (trees self.old) }
         ensures joined { OnOk result (Joins self.old self.new (length ids.now)
             (record_of (id_numbers ids.now) (last (length ids.now) (trees self.old))) made.Struct (room_of 1 0)) }
+        ensures made { (ls : KindTrees)
+            → ids_of_kinds ls ≡ ids_of (record_of (id_numbers ids.now) (last (length ids.now) (trees self.old)))
+            → AreMadeUnder self.old (length (trees self.old) - length ids.now) (id_numbers ids.now) ls
+            → OnOk result (Makes self.old self.new (length ids.now) (Struct ls)) }
         ensures failed { OnErr result (IsAsBefore self.old self.new) }
         ensures enough { HasRoom (room self.old) (room_of 1 0) → IsOk result }
     {

@@ -1,16 +1,20 @@
 //! The accessors of trees. None takes memory, and none walks more than the node that it reads.
-ghost use Rattle.std.specs.Prelude.{◌≡◌, ◌↔◌, ◌<◌, ◌≤◌, ◌+◌, ◌^◌, length, map, true, IsTrue, nat_lt, option_map};
+ghost use Rattle.std.specs.Prelude.{◌≡◌, ◌↔◌, ◌<◌, ◌≤◌, ◌+◌, ◌^◌, length, map, true, IsTrue, nat_lt, option_map, IfSome};
 ghost use Rattle.std.specs.List.{list_all};
 ghost use Rattle.std.specs.Str.{is_utf8};
 ghost use Rattle.frozen_model.specs.Values.{Truth, Number, One, Bytes, Present, NoValue, count, nth, key_less};
 ghost use Rattle.key_order.specs.Keys.{value_of as key_value, IsOneKind};
-ghost use Rattle.typed_tree.specs.Parts.{IsFlag, IsInt, IsText, IsBytes, IsRow, IsMap, IsItems, IsRecord, IsPresent};
+ghost use Rattle.typed_tree.specs.Parts.{IsFlag, IsInt, IsBytes, IsRow, IsMap, IsItems, IsRecord, IsPresent};
 ghost use Rattle.typed_tree.specs.Parts.{items_of, ids_of, fields_of, field_of, find_field};
 ghost use Rattle.typed_tree.specs.Spots.{part, pick, pair, by_twos, linked, all_linked, ids_rise, has_block, fits_at};
 ghost use Rattle.typed_tree.specs.Spots.{value_of};
 ghost use Rattle.typed_tree.specs.Pools.{store_of, values_of};
 ghost use Rattle.typed_tree.specs.References.{value_of_ref, value_of_tree, kind_of_ref, kind_of_tree, HasForm};
 ghost use Rattle.typed_tree.specs.References.{spot_kind, value_at};
+ghost use Rattle.typed_tree.specs.Made.{RefIsMade, TreeIsMade, MadeAt, spot_at, parts_of, ids_in, kind_at, kind_under};
+ghost use Rattle.typed_tree.specs.Fields.{id_number};
+ghost use Rattle.typed_tree.specs.Ranges.{pair_kinds};
+ghost use Rattle.frozen_model.specs.Trees.{KindTree, KindTrees, AList, ASet, AMap, ItemRange, Optional, Struct};
 
 use crate::pool::Pool;
 use crate::spot::{Link, Run, Spot};
@@ -42,6 +46,7 @@ impl Tree {
     pub fn top(&self) -> TreeRef<'_>
         ensures value { value_of_ref result ≡ value_of_tree self.now }
         ensures kind { kind_of_ref result ≡ kind_of_tree self.now }
+        ensures made { (t : KindTree) → TreeIsMade t self.now → RefIsMade t result }
     {
         TreeRef {
             pool: &self.pool,
@@ -56,6 +61,7 @@ impl<'a> TreeRef<'a> {
         ensures value { value_of_ref self.entry
             ≡ value_of (store_of self.entry.pool.now) (values_of self.entry.pool.now) result }
         ensures kind { spot_kind result ≡ kind_of_ref self.entry }
+        ensures is { result ≡ spot_at self.entry.pool.now.nodes.items self.entry.node }
     {
         self.pool.nodes[self.node as usize]
     }
@@ -101,18 +107,14 @@ impl<'a> TreeRef<'a> {
         }
     }
 
-    /// A text. What was made as bytes is read through for UTF-8.
+    /// A text, of what was made as one.
     pub fn text(self) -> &'a str
-        requires { IsText (value_of_ref self) }
+        requires { kind_of_ref self ≡ TreeKind.Text }
         ensures { value_of_ref self.entry ≡ Bytes result.now }
     {
         let pool = self.pool;
         match self.spot() {
             Spot::Text(at) => text_at(pool, at),
-            Spot::Bytes(at) => match str::from_utf8(bytes_at(pool, at)) {
-                Ok(text) => text,
-                Err(_) => "",
-            },
             _ => "",
         }
     }
@@ -146,7 +148,8 @@ impl<'a> TreeRef<'a> {
     /// The value that is present.
     pub fn inner(self) -> TreeRef<'a>
         requires { IsPresent (value_of_ref self) }
-        ensures { value_of_ref self.entry ≡ Present (value_of_ref result) }
+        ensures value { value_of_ref self.entry ≡ Present (value_of_ref result) }
+        ensures made { (t : KindTree) → RefIsMade (Optional tt t) self.entry → RefIsMade t result }
     {
         if let Spot::Present(node) = self.spot() {
             return TreeRef {
@@ -174,6 +177,8 @@ impl<'a> TreeRef<'a> {
     fn items(self) -> &'a [Link]
         ensures items { IsRow (value_of_ref self.entry)
             → pick (values_of self.entry.pool.now) result.now ≡ items_of (value_of_ref self.entry) }
+        ensures parts { IsRow (value_of_ref self.entry) → map (λ l. l.node) result.now
+            ≡ parts_of (store_of self.entry.pool.now) (spot_at self.entry.pool.now.nodes.items self.entry.node) }
         ensures below { list_all (λ l. nat_lt l.node self.entry.node) result.now ≡ true }
         ensures few { length result.now < 2 ^ 32 }
     {
@@ -187,6 +192,8 @@ impl<'a> TreeRef<'a> {
     fn turns(self) -> &'a [Link]
         ensures pairs { IsMap (value_of_ref self.entry)
             → by_twos (pick (values_of self.entry.pool.now) result.now) ≡ items_of (value_of_ref self.entry) }
+        ensures parts { IsMap (value_of_ref self.entry) → map (λ l. l.node) result.now
+            ≡ parts_of (store_of self.entry.pool.now) (spot_at self.entry.pool.now.nodes.items self.entry.node) }
         ensures below { list_all (λ l. nat_lt l.node self.entry.node) result.now ≡ true }
         ensures few { length result.now < 2 ^ 32 }
     {
@@ -200,6 +207,10 @@ impl<'a> TreeRef<'a> {
     fn fields(self) -> &'a [Link]
         ensures ids { map (λ l. l.id) result.now ≡ ids_of (value_of_ref self.entry) }
         ensures fields { pick (values_of self.entry.pool.now) result.now ≡ fields_of (value_of_ref self.entry) }
+        ensures parts { kind_of_ref self.entry ≡ TreeKind.Struct → map (λ l. l.node) result.now
+            ≡ parts_of (store_of self.entry.pool.now) (spot_at self.entry.pool.now.nodes.items self.entry.node) }
+        ensures under { kind_of_ref self.entry ≡ TreeKind.Struct → map (λ l. l.id) result.now
+            ≡ ids_in (store_of self.entry.pool.now) (spot_at self.entry.pool.now.nodes.items self.entry.node) }
         ensures rising { ids_rise result.now ≡ true }
         ensures below { list_all (λ l. nat_lt l.node self.entry.node) result.now ≡ true }
         ensures few { length result.now < 2 ^ 32 }
@@ -213,7 +224,10 @@ impl<'a> TreeRef<'a> {
     // What a link to a part leads to.
     fn part(self, link: &Link) -> TreeRef<'a>
         requires { link.now.node < self.node }
-        ensures { value_of_ref result ≡ value_at self.entry.pool.now link.now.node }
+        ensures value { value_of_ref result ≡ value_at self.entry.pool.now link.now.node }
+        ensures made { (t : KindTree)
+            → MadeAt (store_of self.entry.pool.now) self.entry.pool.now.nodes.items t link.now.node
+            → RefIsMade t result }
     {
         TreeRef {
             pool: self.pool,
@@ -246,7 +260,9 @@ impl<'a> TreeRef<'a> {
     pub fn item(self, i: u64) -> TreeRef<'a>
         requires row { IsRow (value_of_ref self) }
         requires inside { i < count (items_of (value_of_ref self)) }
-        ensures { value_of_ref result ≡ nth (items_of (value_of_ref self.entry)) i }
+        ensures value { value_of_ref result ≡ nth (items_of (value_of_ref self.entry)) i }
+        ensures of_list { (t : KindTree) → RefIsMade (ItemRange AList tt tt t) self.entry → RefIsMade t result }
+        ensures of_set { (t : KindTree) → RefIsMade (ItemRange ASet tt tt t) self.entry → RefIsMade t result }
     {
         self.part(&self.items()[i as usize])
     }
@@ -255,7 +271,11 @@ impl<'a> TreeRef<'a> {
     pub fn entry(self, i: u64) -> (TreeRef<'a>, TreeRef<'a>)
         requires map { IsMap (value_of_ref self) }
         requires inside { i < count (items_of (value_of_ref self)) }
-        ensures { nth (items_of (value_of_ref self.entry)) i ≡ pair (value_of_ref result.0) (value_of_ref result.1) }
+        ensures pair { nth (items_of (value_of_ref self.entry)) i
+            ≡ pair (value_of_ref result.0) (value_of_ref result.1) }
+        ensures made { (key value : KindTree)
+            → RefIsMade (ItemRange AMap tt tt (pair_kinds key value)) self.entry
+            → RefIsMade key result.0 × RefIsMade value result.1 }
     {
         let links = self.turns();
         let at = 2 * i as usize;
@@ -265,7 +285,8 @@ impl<'a> TreeRef<'a> {
     /// A field of a struct by its place from 0, in the order of ids.
     pub fn field_at(self, i: u64) -> TreeRef<'a>
         requires { i < count (fields_of (value_of_ref self)) }
-        ensures { value_of_ref result ≡ nth (fields_of (value_of_ref self.entry)) i }
+        ensures value { value_of_ref result ≡ nth (fields_of (value_of_ref self.entry)) i }
+        ensures made { (ls : KindTrees) → RefIsMade (Struct ls) self.entry → RefIsMade (kind_at ls i) result }
     {
         self.part(&self.fields()[i as usize])
     }
@@ -273,15 +294,19 @@ impl<'a> TreeRef<'a> {
     /// A field of a struct by its id, found by halving. `None` exactly where it has none.
     pub fn field(self, id: i16) -> Option<TreeRef<'a>>
         requires { IsRecord (value_of_ref self) }
-        ensures { option_map value_of_ref result ≡ field_of (value_of_ref self.entry) id }
+        ensures value { option_map value_of_ref result ≡ field_of (value_of_ref self.entry) id }
+        ensures made { (ls : KindTrees) → RefIsMade (Struct ls) self.entry
+            → IfSome result (RefIsMade (kind_under ls (id_number id))) }
     {
         self.numbered_field(id.cast_unsigned())
     }
 
     // The field whose id is this number in the value.
     fn numbered_field(self, id: u16) -> Option<TreeRef<'a>>
-        ensures { let whole = value_of_ref self.entry in
+        ensures value { let whole = value_of_ref self.entry in
             option_map value_of_ref result ≡ find_field (ids_of whole) (fields_of whole) id }
+        ensures made { (ls : KindTrees) → RefIsMade (Struct ls) self.entry
+            → IfSome result (RefIsMade (kind_under ls id)) }
     {
         let links = self.fields();
         match links.binary_search_by_key(&id, |link| link.id) {

@@ -31,8 +31,8 @@ fn a_text(rt: HostRuntime) -> Result<(), Fail> {
     builder.text("né")?;
     let tree = builder.finish();
     assert_eq!(rt; tree.top().bytes(), "né".as_bytes());
-    assert_eq!(rt; tree.top().text(), "né");
     assert_eq!(rt; tree.top().kind(), TreeKind::Text);
+    assert_eq!(rt; tree.top().text(), "né");
     Ok(())
 }
 
@@ -42,7 +42,6 @@ fn bytes_that_are_a_text(rt: HostRuntime) -> Result<(), Fail> {
     builder.bytes("né".as_bytes())?;
     let tree = builder.finish();
     assert_eq!(rt; tree.top().bytes(), "né".as_bytes());
-    assert_eq!(rt; tree.top().text(), "né");
     assert_eq!(rt; tree.top().kind(), TreeKind::Bytes);
     Ok(())
 }

@@ -26,7 +26,7 @@ inline_cells-inline_cells-requires t c =
     let y = c.args.layouts.now in
     let l = at y c.args.node in
     let o = optional_at l (subst (λ z. IsShape (plain z) l) c.in-Optional.is
-    (shape c.kind.result l c.kind.ensures)) in
+    (shape c.kind.result l c.kind.ensures.kind)) in
     let ch = inner_child (tree_of y.nodes.items) (version_of y.version) c.args.node o.width o.inner
     c.requires.node o.is in
     (omega (arith, c.decreases, ap nodes o.is, ap nodes ch.is), ch.node)
@@ -38,7 +38,7 @@ inline_cells-struct_cells-requires t c =
       (
         c.requires.node,
         struct_shape c.kind.result l
-            (shape c.kind.result l c.kind.ensures) c.in-Struct.is,
+            (shape c.kind.result l c.kind.ensures.kind) c.in-Struct.is,
       ),
     )
 
@@ -47,7 +47,7 @@ inline_cells-returns-in-Optional-clause-cells t c =
     let y = c.args.layouts.now in
     let l = at y c.args.node in
     let o = optional_at l (subst (λ z. IsShape (plain z) l) c.in-Optional.is
-    (shape c.kind.result l c.kind.ensures)) in
+    (shape c.kind.result l c.kind.ensures.kind)) in
     let ch = inner_child (tree_of y.nodes.items) (version_of y.version) c.args.node o.width o.inner
     c.requires.node o.is in
     ap (λ n. 1 + n) (c.inline_cells.ensures.cells ∙ ap inline_cells ch.is) ∙ sym (ap inline_cells o.is)
@@ -57,7 +57,7 @@ inline_cells-returns-in-Optional-clause-few t c =
     let y = c.args.layouts.now in
     let l = at y c.args.node in
     let o = optional_at l (subst (λ z. IsShape (plain z) l) c.in-Optional.is
-    (shape c.kind.result l c.kind.ensures)) in
+    (shape c.kind.result l c.kind.ensures.kind)) in
     let ch = inner_child (tree_of y.nodes.items) (version_of y.version) c.args.node o.width o.inner
     c.requires.node o.is in
     let s = sub (tree_of y.nodes.items) c.args.node in

@@ -421,7 +421,7 @@ check_part-check_fields-requires t c =
         (
           c.requires.facts,
           (
-            struct_shape c.kind.result l (shape c.kind.result l c.kind.ensures) c.in-Struct.is,
+            struct_shape c.kind.result l (shape c.kind.result l c.kind.ensures.kind) c.in-Struct.is,
             c.requires.here,
           ),
         ),
@@ -437,7 +437,7 @@ check_part-check_map-requires t c =
         (
           c.requires.facts,
           (
-            subst (λ z. IsShape (plain z) l) c.in-Map.is (shape c.kind.result l c.kind.ensures),
+            subst (λ z. IsShape (plain z) l) c.in-Map.is (shape c.kind.result l c.kind.ensures.kind),
             c.requires.here,
           ),
         ),
@@ -447,7 +447,7 @@ check_part-check_map-requires t c =
 pub check_part-check_set-requires-clause-set : goal.check_part-check_set-requires-clause-set
 check_part-check_set-requires-clause-set t c =
     let l = at c.args.layouts.now c.args.node in
-    subst (λ z. IsShape (plain z) l) c.in-Set.is (shape c.kind.result l c.kind.ensures)
+    subst (λ z. IsShape (plain z) l) c.in-Set.is (shape c.kind.result l c.kind.ensures.kind)
 
 pub check_part-check_list-requires : goal.check_part-check_list-requires
 check_part-check_list-requires t c =
@@ -458,7 +458,7 @@ check_part-check_list-requires t c =
         (
           c.requires.facts,
           (
-            subst (λ z. IsShape (plain z) l) c.in-List.is (shape c.kind.result l c.kind.ensures),
+            subst (λ z. IsShape (plain z) l) c.in-List.is (shape c.kind.result l c.kind.ensures.kind),
             c.requires.here,
           ),
         ),
@@ -475,7 +475,7 @@ check_part-check_optional-requires t c =
           c.requires.facts,
           (
             subst (λ z. IsShape (plain z) l) c.in-Optional.is
-                (shape c.kind.result l c.kind.ensures),
+                (shape c.kind.result l c.kind.ensures.kind),
             c.requires.here,
           ),
         ),
@@ -487,7 +487,7 @@ check_part-returns-in-Some t c =
     let a = c.args in
     let l = at a.layouts.now a.node in
     number_agrees a.content.now l a.start a.bit a.reach _
-    (leaf_shape c.kind.result l (shape c.kind.result l c.kind.ensures) c.in-I8.is) c.in-Some.ensures
+    (leaf_shape c.kind.result l (shape c.kind.result l c.kind.ensures.kind) c.in-I8.is) c.in-Some.ensures
     c.requires.here
 
 -- ---- lists

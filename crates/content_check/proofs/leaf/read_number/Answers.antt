@@ -5,6 +5,7 @@ use Rattle.layout_tree.specs.Listing.{sub, tree_of, version_of}
 use Rattle.layout_tree.proofs.Codings.{is_first, is_second}
 use Rattle.content_check.proofs.Leaves.{read_first, read_second}
 use Rattle.content_check.specs.Steps.{IsAbove}
+use Rattle.layout_tree.specs.Reading.{base_at}
 use Rattle.content_check.proofs.leaf.read_number.Goals as goal
 
 pub returns-else-version-eq2 : goal.returns-else-version-eq2
@@ -31,4 +32,4 @@ returns-then-version-eq2 c =
     c.base.result c.greatest_of.result c.kind.result c.read_bits-n.result c.above_base.result l.sound
     c.requires.node (is_second (version_of l.version) (of_z w32 c.version.result)
     (ap (of_z w32) c.version.ensures) c.if-version-eq2.true) c.bits-width.ensures.bits
-    c.read_bits-n.ensures.value c.base.ensures c.kind.ensures c.greatest_of.ensures a
+    c.read_bits-n.ensures.value (λ k b w e. c.base.ensures ∙ ap base_at e) c.kind.ensures.kind c.greatest_of.ensures a

@@ -17,18 +17,18 @@ is_sure-fields_sure-requires t c =
       (
         c.requires.node,
         struct_shape c.kind.result l
-            (shape c.kind.result l c.kind.ensures) c.in-Struct.is,
+            (shape c.kind.result l c.kind.ensures.kind) c.in-Struct.is,
       ),
     )
 
 pub is_sure-returns-in-Flag : goal.is_sure-returns-in-Flag
 is_sure-returns-in-Flag t c e = sure_flag (at c.args.layouts.now c.args.node)
-    (ap plain (sym c.in-Flag.is) ∙ c.kind.ensures)
+    (ap plain (sym c.in-Flag.is) ∙ c.kind.ensures.kind)
 
 pub is_sure-returns-in-I8 : goal.is_sure-returns-in-I8
 is_sure-returns-in-I8 t c e =
     let l = at c.args.layouts.now c.args.node in
-    sure_leaf l (leaf_shape c.kind.result l (shape c.kind.result l c.kind.ensures) c.in-I8.is)
+    sure_leaf l (leaf_shape c.kind.result l (shape c.kind.result l c.kind.ensures.kind) c.in-I8.is)
     (c.stays_in_range.ensures e)
 
 pub fields_sure-loop-child-init : goal.fields_sure-loop-child-init

@@ -1,10 +1,11 @@
-use Rattle.std.proofs.Common.{ap, rules, w64, w32, subst, Some}
+use Rattle.std.proofs.Common.{◌∙◌, ap, rules, w64, w32, subst, Some}
 use Rattle.std.proofs.lemmas.Int.{to_z-of_z}
 use mir.Val.{SFits, to_z, of_z}
 use Rattle.layout_tree.specs.Listing.{sub, tree_of, version_of}
 use Rattle.layout_tree.proofs.Codings.{is_first, is_second}
 use Rattle.content_check.specs.Steps.{IsAbove}
 use Rattle.content_check.proofs.Leaves.{always_first, always_second}
+use Rattle.layout_tree.specs.Reading.{base_at}
 use Rattle.content_check.proofs.sure.stays_in_range.Goals as goal
 
 pub returns-else-version-eq2 : goal.returns-else-version-eq2
@@ -29,5 +30,5 @@ returns-in-Some c e k d is =
     always_second l.version t (sub t c.args.node) c.args.node c.bits.result c.base.result c.greatest_of.result
     c.kind.result c.ones-most.result c.in-Some.field-0 l.sound c.requires.node
     (is_second (version_of l.version) (of_z w32 c.version.result) (ap (of_z w32) c.version.ensures)
-    c.if-version-eq2.true) c.bits.ensures.bits c.ones-most.ensures c.base.ensures c.kind.ensures
+    c.if-version-eq2.true) c.bits.ensures.bits c.ones-most.ensures (λ k b w e. c.base.ensures ∙ ap base_at e) c.kind.ensures.kind
     c.greatest_of.ensures a k d is

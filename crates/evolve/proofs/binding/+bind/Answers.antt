@@ -330,7 +330,7 @@ bind_optional-overflow_add-node t c = omega (arith, part.node_room c.args.layout
 pub bind_optional-add_node-requires-in-Optional : goal.bind_optional-add_node-requires-in-Optional
 bind_optional-add_node-requires-in-Optional t c =
     let y = c.args.layouts.now in
-    let o = optional_here c.kind.result (at y c.args.node) c.kind.ensures c.in-Optional.is in
+    let o = optional_here c.kind.result (at y c.args.node) c.kind.ensures.kind c.in-Optional.is in
     omega (arith, part.optional_room y c.args.node c.requires o)
 
 pub bind_optional-overflow_add-node-in-Optional : goal.bind_optional-overflow_add-node-in-Optional
@@ -340,7 +340,7 @@ bind_optional-overflow_add-node-in-Optional t c =
 pub bind_optional-bind_type-requires : goal.bind_optional-bind_type-requires
 bind_optional-bind_type-requires t c =
     let y = c.args.layouts.now in
-    let o = optional_here c.kind.result (at y c.args.node) c.kind.ensures c.in-Optional.is in (
+    let o = optional_here c.kind.result (at y c.args.node) c.kind.ensures.kind c.in-Optional.is in (
       omega (arith, c.decreases),
       (inner_child (noted_in y) (version_of y.version) c.args.node o.width o.inner
           c.requires o.is).node,
@@ -353,7 +353,7 @@ bind_optional-returns-in_ok-add_node-in-Optional-2 t c =
     let ty = type_of_ref c.args.ty in
     let l = at y c.args.node in
     let k = c.args.node + 2 in
-    let o = optional_here c.kind.result l c.kind.ensures c.in-Optional.is in
+    let o = optional_here c.kind.result l c.kind.ensures.kind c.in-Optional.is in
     let ch = inner_child (noted_in y) (version_of y.version) c.args.node o.width o.inner c.requires o.is in
     part.optional_answers y.relaxed ty l (at y k) c.args.node (c.args.node + 1) k c.args.nodes.now.items
     c.add_node.new.nodes.items c.add_node-in-Optional.new.nodes.items c.bind_type.new.nodes.items
@@ -410,7 +410,7 @@ bind_struct-returns-in-Err t c =
     let h = c.in-Err.ensures k.nodes.items c.bind_field.new.nodes.items (fault_at r x ls)
     (plan_at x ls (1 + node))
     c.bind_field.ensures in
-    st.err c.in-Err.fault (subst (λ (z : ℤ). Tells (under (nat_abs z) (fault_at r x ls)) c.in-Err.fault)
+    st.err c.in-Err.fault (subst (λ (z : ℤ). Tells (under z (fault_at r x ls)) c.in-Err.fault)
     (to_z-of_z w16 c.id.result s ∙ c.id.ensures) h)
 
 pub bind_struct-loop-i-preserved : goal.bind_struct-loop-i-preserved
@@ -430,7 +430,7 @@ bind_struct-loop-i-preserved t c =
     (plan_at x ls (1 + node))
     c.bind_field.ensures in
     st.ok c.bind_field.new.nodes.items
-    (subst (λ (z : ℤ). under (nat_abs z) (fault_at r x ls) ≡ None)
+    (subst (λ (z : ℤ). under z (fault_at r x ls) ≡ None)
     (to_z-of_z w16 c.id.result s ∙ c.id.ensures)
     h.0) h.1
 
@@ -451,7 +451,7 @@ bind_type-returns-then-not-fits t c =
     let l = at y c.args.node in
     let e = part.fits_known y.relaxed c.relaxed.result ty l c.kind.result c.kind-2.result false
     c.relaxed.ensures
-    c.kind.ensures c.kind-2.ensures (sym c.if-not-fits.true ∙ c.fits.ensures) in
+    c.kind.ensures c.kind-2.ensures.kind (sym c.if-not-fits.true ∙ c.fits.ensures) in
     part.changed_here (type_fault y.relaxed ty l) c.new.result.items (unfit y.relaxed ty l e)
     c.new.ensures.items
 
@@ -462,7 +462,7 @@ bind_type-add_range-requires t c =
     let l = at y c.args.node in
     let e = part.fits_known y.relaxed c.relaxed.result ty l c.kind.result c.kind-2.result true
     c.relaxed.ensures
-    c.kind.ensures c.kind-2.ensures (sym c.if-not-fits.false ∙ c.fits.ensures) in
+    c.kind.ensures c.kind-2.ensures.kind (sym c.if-not-fits.false ∙ c.fits.ensures) in
     part.range_room y c.args.node c.requires
     (range_here y.relaxed ty l c.kind-3.result c.kind-3.ensures c.in-Text.is e)
 
@@ -476,7 +476,7 @@ bind_type-returns-in_ok-add_range-in-Text t c =
     let l = at y c.args.node in
     let e = part.fits_known y.relaxed c.relaxed.result ty l c.kind.result c.kind-2.result true
     c.relaxed.ensures
-    c.kind.ensures c.kind-2.ensures (sym c.if-not-fits.false ∙ c.fits.ensures) in
+    c.kind.ensures c.kind-2.ensures.kind (sym c.if-not-fits.false ∙ c.fits.ensures) in
     let f = bytes_here y.relaxed ty l c.kind-3.result c.kind-3.ensures c.in-Text.is e in (
       f.none,
       subst (λ (z : List (Option ℕ)). Adds c.args.nodes.now.items c.add_range.new.nodes.items z)
@@ -490,7 +490,7 @@ bind_type-returns-in_ok-add_node-in_default t c =
     let l = at y c.args.node in
     let e = part.fits_known y.relaxed c.relaxed.result ty l c.kind.result c.kind-2.result true
     c.relaxed.ensures
-    c.kind.ensures c.kind-2.ensures (sym c.if-not-fits.false ∙ c.fits.ensures) in
+    c.kind.ensures c.kind-2.ensures.kind (sym c.if-not-fits.false ∙ c.fits.ensures) in
     let h = c.in_default in
     let k = leaf_left c.kind-3.result h.not-Text h.not-Bytes h.not-List h.not-Set h.not-Map h.not-Struct in
     let f = leaf_here y.relaxed ty l c.kind-3.result c.kind-3.ensures k e in (

@@ -8,6 +8,7 @@ use Rattle.layout_tree.specs.Nodes.{at}
 use Rattle.layout_tree.proofs.Codings.{first_code, second_code}
 use Rattle.freezer.proofs.Stores.{coding, first_need, first_stored, small_at, unbased, at_zero, below_zero}
 use Rattle.freezer.proofs.Stores.{neg_room, neg_stored}
+use Rattle.layout_tree.specs.Reading.{base_at}
 use Rattle.freezer.proofs.leaf.stored_number.Goals as goal
 
 pub overflow_shr-result : goal.overflow_shr-result
@@ -100,7 +101,7 @@ returns-then-based-clause-stored c k d e =
     let x = c.args.x in
     let b = second_code (version_of l.version) (sub (tree_of l.nodes.items) c.args.node) k d
     (c.requires.based.0 c.if-based.true) e in
-    let base = c.base.ensures (Integer k) b.base (width d) (e ∙ ap (λ q. Leaf (Integer k) q) b.is) in
+    let base = c.base.ensures ∙ ap base_at (e ∙ ap (λ q. Leaf (Integer k) q) b.is) in
     let f : SFits w64 x = c.ranges.x in
     let g : SFits w64 c.base.result = search rules in
     c.abs_diff.ensures ∙ ap (λ z. nat_abs (z -ℤ to_z w64 (of_z w64 c.base.result))) (to_z-of_z w64 x f)
@@ -114,8 +115,7 @@ returns-then-based-clause-fits c =
     let r = c.requires.fits in
     let b = second_code (version_of l.version) (sub (tree_of l.nodes.items) c.args.node) r.kind r.code
     (c.requires.based.0 c.if-based.true) r.is in
-    let base = c.base.ensures (Integer r.kind) b.base (width r.code)
-    (r.is ∙ ap (λ q. Leaf (Integer r.kind) q) b.is) in
+    let base = c.base.ensures ∙ ap base_at (r.is ∙ ap (λ q. Leaf (Integer r.kind) q) b.is) in
     let f : SFits w64 x = c.ranges.x in
     let g : SFits w64 c.base.result = search rules in
     let cd = coding (at l c.args.node) x c.args.width r.kind r.code r c.requires.width r.is in

@@ -53,14 +53,14 @@ write_fields-write_part-requires t c =
         height_fields u c.requires.record,
         height_nth (fields_of u) k.i,
         ap height
-            c.field_at.ensures,
+            c.field_at.ensures.value,
       ),
       (
         c.requires.based,
         (
           h.node,
           subst (λ (y : Value). Ready (at c.args.layouts.now k.child) y k.region
-              c.args.block.now k.place) (sym c.field_at.ensures) r,
+              c.args.block.now k.place) (sym c.field_at.ensures.value) r,
         ),
       ),
     )
@@ -90,7 +90,7 @@ write_fields-loop-child-preserved t c =
     let e = c.past-child.ensures.part h.node in
     let eb = ap (λ z. k.place + z) c.bits.ensures.bits in
     let w = subst (λ (y : Value). Wrote (at c.args.layouts.now k.child) y k.region c.write_part.new.region
-    c.args.block.now k.place) c.field_at.ensures c.write_part.ensures in
+    c.args.block.now k.place) c.field_at.ensures.value c.write_part.ensures in
     fields_next c.past-child.result k.invariant lt e (λ id ms vs o os r. field_written o eb w r)
 
 pub write_fields-loop-child-smaller : goal.write_fields-loop-child-smaller
@@ -139,7 +139,7 @@ write_items-write_part-requires t c =
     let b = c.args.block.now in
     let u = value_of_ref c.item.result in
     let lt : k.i < count all = omega (arith, c.len-n.ensures) in
-    let e : u ≡ nth all k.i = c.item.ensures in
+    let e : u ≡ nth all k.i = c.item.ensures.value in
     let ch = item_child (tree_of l.nodes.items) (version_of l.version) n c.requires.node c.requires.holder in
     let place : k.i * stride m ≡ k.i * c.stride-stride.result = ap (λ z. k.i * z)
     (item_is (at l n) c.requires.holder ∙ sym c.stride-stride.ensures.stride) in
@@ -174,7 +174,7 @@ write_items-loop-i-preserved t c =
     let b = c.args.block.now in
     let u = value_of_ref c.item.result in
     let lt : k.i < count all = omega (arith, c.len-n.ensures) in
-    let e : u ≡ nth all k.i = c.item.ensures in
+    let e : u ≡ nth all k.i = c.item.ensures.value in
     let ch = item_child (tree_of l.nodes.items) (version_of l.version) n c.requires.node c.requires.holder in
     let place : k.i * stride m ≡ k.i * c.stride-stride.result = ap (λ z. k.i * z)
     (item_is (at l n) c.requires.holder ∙ sym c.stride-stride.ensures.stride) in
@@ -221,7 +221,7 @@ write_pairs-write_pair-requires t c =
     let b = c.args.block.now in
     let u = pair (value_of_ref c.entry.result.0) (value_of_ref c.entry.result.1) in
     let lt : k.i < count all = omega (arith, c.len-n.ensures) in
-    let e : u ≡ nth all k.i = sym c.entry.ensures in
+    let e : u ≡ nth all k.i = sym c.entry.ensures.pair in
     let ch = item_child (tree_of l.nodes.items) (version_of l.version) n c.requires.node c.requires.holder in
     let place : k.i * stride m ≡ k.i * c.stride-stride.result = ap (λ z. k.i * z)
     (item_is (at l n) c.requires.holder ∙ sym c.stride-stride.ensures.stride) in
@@ -256,7 +256,7 @@ write_pairs-loop-i-preserved t c =
     let b = c.args.block.now in
     let u = pair (value_of_ref c.entry.result.0) (value_of_ref c.entry.result.1) in
     let lt : k.i < count all = omega (arith, c.len-n.ensures) in
-    let e : u ≡ nth all k.i = sym c.entry.ensures in
+    let e : u ≡ nth all k.i = sym c.entry.ensures.pair in
     let ch = item_child (tree_of l.nodes.items) (version_of l.version) n c.requires.node c.requires.holder in
     let place : k.i * stride m ≡ k.i * c.stride-stride.result = ap (λ z. k.i * z)
     (item_is (at l n) c.requires.holder ∙ sym c.stride-stride.ensures.stride) in
@@ -637,7 +637,7 @@ write_part-write_part-requires t c =
     let x = value_of_ref c.inner.result in
     let old = c.args.region.now in
     let b = c.args.block.now in
-    let e = c.inner.ensures in
+    let e = c.inner.ensures.value in
     let p = present_at l u x e r.form in
     let ch = inner_child (tree_of lay.nodes.items) (version_of lay.version) c.args.node p.width p.inner
     c.requires.node p.is in
@@ -665,7 +665,7 @@ write_part-returns-in-Present t c =
     let x = value_of_ref c.inner.result in
     let old = c.args.region.now in
     let b = c.args.block.now in
-    let e = c.inner.ensures in
+    let e = c.inner.ensures.value in
     let p = present_at l u x e r.form in
     let ch = inner_child (tree_of lay.nodes.items) (version_of lay.version) c.args.node p.width p.inner
     c.requires.node p.is in

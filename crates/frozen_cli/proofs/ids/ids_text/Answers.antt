@@ -1,6 +1,6 @@
-use Rattle.std.proofs.Common.{◌∙◌, ap, string_bytes, ◌++◌, w16, pos, nat_abs, get_or, rules}
+use Rattle.std.proofs.Common.{◌∙◌, ap, string_bytes, ◌++◌, w16, pos, get_or, rules}
 use Rattle.std.specs.Prelude.{FitsSigned}
-use Rattle.std.specs.Fmt.{decimal}
+use Rattle.std.specs.Fmt.{signed_decimal}
 use Rattle.std.proofs.lemmas.Int.{to_z-of_z}
 use Rattle.frozen_cli.proofs.Dotted.{id_more}
 use Rattle.frozen_cli.proofs.ids.ids_text.Goals as goal
@@ -13,5 +13,4 @@ loop-i-preserved c =
     id_more c.args.ids.now c.loop-i.i (pos 0) (string_bytes c.loop-i.out) mid
     (string_bytes c.push_str.new.self) _ c.loop-i-test.true c.in_ok-push_dot.ensures
     (c.in_ok-push_str.ensures.bytes ∙ ap (λ t. mid ++ t) c.format.ensures.text
-    ∙ ap (λ n. mid ++ decimal n) c.unsigned_abs.ensures.value
-    ∙ ap (λ z. mid ++ decimal (nat_abs z)) (to_z-of_z w16 id fits)) c.loop-i.invariant
+    ∙ ap (λ z. mid ++ signed_decimal z) (to_z-of_z w16 id fits)) c.loop-i.invariant

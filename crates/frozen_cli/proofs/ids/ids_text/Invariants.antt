@@ -1,9 +1,8 @@
 -- What is written of the ids from a place on is still to come.
-use Rattle.std.proofs.Common.{◌≡◌, ◌++◌, false, nat_lt, drop, map, nat_abs, string_bytes}
+use Rattle.std.proofs.Common.{◌≡◌, ◌++◌, false, nat_lt, drop, string_bytes}
 use Rattle.frozen_cli.specs.Refusal.{dotted}
 use Rattle.frozen_cli.proofs.ids.ids_text.Given as goal
 
 abbrev pub invariant-loop-i : goal.invariant-loop-i
 invariant-loop-i l =
-    let ids = map nat_abs l.ids in
-    string_bytes l.out ++ dotted (nat_lt 0 l.i) (drop l.i ids) ≡ dotted false ids
+    string_bytes l.out ++ dotted (nat_lt 0 l.i) (drop l.i l.ids) ≡ dotted false l.ids

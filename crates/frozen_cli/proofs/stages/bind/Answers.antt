@@ -1,4 +1,4 @@
-use Rattle.std.proofs.Common.{◌≡◌, ◌∙◌, ap, map, nat_abs, refl, subst, Some, Err}
+use Rattle.std.proofs.Common.{◌≡◌, ◌∙◌, ap, refl, subst, Some, Err}
 use Rattle.idl_profile.specs.Types.{root_of}
 use Rattle.idl_parse.specs.Parsed.{definition_of}
 use Rattle.layout_tree.specs.Nodes.{layout_of}
@@ -14,12 +14,12 @@ returns-in_ok-ids_text-in-Err-TypeChanged-clause-gives c =
     let root = root_of (definition_of c.args.def.now) in
     let e = c.in-Err-TypeChanged in
     let ids = e.ids.items in
-    let fault : bind_fault l root ≡ Some (type_changed (map nat_abs ids)) =
+    let fault : bind_fault l root ≡ Some (type_changed ids) =
     subst (λ f. IsBound l root (Err f)) e.field-0-is e.ensures in
     let text = c.in_ok-ids_text-in-Err-TypeChanged in (
-      type_changed (map nat_abs ids),
+      type_changed ids,
       fault,
-      (text.field-0, text.ensures ∙ ap (λ xs. ids_text (map nat_abs xs)) c.deref.ensures.value, refl),
+      (text.field-0, text.ensures ∙ ap (λ xs. ids_text xs) c.deref.ensures.value, refl),
     )
 
 pub returns-in_ok-ids_text-in-Err-RequiredAbsent-clause-gives :
@@ -29,14 +29,14 @@ returns-in_ok-ids_text-in-Err-RequiredAbsent-clause-gives c =
     let root = root_of (definition_of c.args.def.now) in
     let e = c.in-Err-RequiredAbsent in
     let ids = e.ids.items in
-    let fault : bind_fault l root ≡ Some (required_absent (map nat_abs ids)) =
+    let fault : bind_fault l root ≡ Some (required_absent ids) =
     subst (λ f. IsBound l root (Err f)) e.field-0-is e.ensures in
     let text = c.in_ok-ids_text-in-Err-RequiredAbsent in (
-      required_absent (map nat_abs ids),
+      required_absent ids,
       fault,
       (
         text.field-0,
-        text.ensures ∙ ap (λ xs. ids_text (map nat_abs xs))
+        text.ensures ∙ ap (λ xs. ids_text xs)
             c.deref-in-Err-RequiredAbsent.ensures.value,
         refl,
       ),

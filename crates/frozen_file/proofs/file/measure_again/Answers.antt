@@ -1,5 +1,4 @@
 use Rattle.std.proofs.Common.{◌∙◌}
-use Rattle.std.proofs.lemmas.Result.{IfOk-weaker}
 use Rattle.frozen_model.specs.Trees.{kinds}
 use Rattle.layout_tree.specs.Nodes.{layout_of}
 use Rattle.typed_tree.specs.References.{value_of_ref}
@@ -42,4 +41,4 @@ returns-clause-kinds g c =
     let b = c.in_ok-layouts in
     let f = from_shape (layout_of b.layouts) (kinds l) v b.ensures.layout (of_kinds l v c.requires.form)
     (few_kinds l v c.requires.form c.requires.few) in
-    IfOk-weaker c.measure_over.result _ _ (λ m e. e ∙ f.same_kinds) c.measure_over.ensures.kinds
+    c.in_ok-measured.ensures.kinds ∙ f.same_kinds

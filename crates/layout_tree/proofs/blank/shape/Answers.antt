@@ -35,4 +35,4 @@ returns c =
     let s = shaped (kinds_of u) new h.0 h.1 (root_added c.new-nodes.result.items new
     (type_of_ref c.root.result) u c.new-nodes.ensures.items c.root.ensures.tree
     c.in_ok-add_type.ensures.added) in
-    record { layout = s.layout; settled = s.settled }
+    record { layout = s.layout; settled = s.settled; noted = s.tells }

@@ -51,9 +51,9 @@ gather_fields-gather_part-requires t c =
         height_fields u c.requires.record,
         height_nth (fields_of u) k.i,
         ap height
-            c.field_at.ensures,
+            c.field_at.ensures.value,
       ),
-      (h.node, subst (Of (at c.args.layouts.now k.child)) (sym c.field_at.ensures) h.form),
+      (h.node, subst (Of (at c.args.layouts.now k.child)) (sym c.field_at.ensures.value) h.form),
     )
 
 pub gather_fields-past-child-requires : goal.gather_fields-past-child-requires
@@ -67,7 +67,7 @@ gather_fields-loop-child-preserved t c =
     let lt = c.loop-child-test.true in
     let e = c.past-child.ensures.part (fields_here k.invariant lt).node in
     let g = subst (λ (y : Value). Gathers (at c.args.layouts.now k.child) y k.child c.args.parent
-    k.spots.items c.gather_part.new.spots.items) c.field_at.ensures c.in_ok-gather_part.ensures in
+    k.spots.items c.gather_part.new.spots.items) c.field_at.ensures.value c.in_ok-gather_part.ensures in
     fields_next c.past-child.result k.invariant lt e (λ id ms vs o os r. field_gathered e g r)
 
 pub gather_fields-overflow_add-i : goal.gather_fields-overflow_add-i
@@ -119,7 +119,7 @@ gather_items-gather_part-requires t c =
     let k = c.loop-i in
     let u = value_of_ref c.item.result in
     let lt : k.i < count all = omega (arith, c.len-n.ensures) in
-    let e : u ≡ nth all k.i = c.item.ensures in
+    let e : u ≡ nth all k.i = c.item.ensures.value in
     let ch = item_child (noted_in l) (version_of l.version) n c.requires.node c.requires.holder in
     let h = items_here k.invariant lt in (
       omega (
@@ -142,7 +142,7 @@ gather_items-loop-i-preserved t c =
     let k = c.loop-i in
     let u = value_of_ref c.item.result in
     let lt : k.i < count all = omega (arith, c.len-n.ensures) in
-    let e : u ≡ nth all k.i = c.item.ensures in
+    let e : u ≡ nth all k.i = c.item.ensures.value in
     let ch = item_child (noted_in l) (version_of l.version) n c.requires.node c.requires.holder in
     let new = c.gather_part.new.spots.items in
     let g = subst (λ (y : Value). Gathers m y (n + 3) c.args.parent k.spots.items new) e
@@ -178,7 +178,7 @@ gather_pairs-gather_pair-requires t c =
     let k = c.loop-i in
     let u = pair (value_of_ref c.entry.result.0) (value_of_ref c.entry.result.1) in
     let lt : k.i < count all = omega (arith, c.len-n.ensures) in
-    let e : u ≡ nth all k.i = sym c.entry.ensures in
+    let e : u ≡ nth all k.i = sym c.entry.ensures.pair in
     let ch = item_child (noted_in l) (version_of l.version) n c.requires.node c.requires.holder in
     let h = items_here k.invariant lt in (
       omega (
@@ -201,7 +201,7 @@ gather_pairs-loop-i-preserved t c =
     let k = c.loop-i in
     let u = pair (value_of_ref c.entry.result.0) (value_of_ref c.entry.result.1) in
     let lt : k.i < count all = omega (arith, c.len-n.ensures) in
-    let e : u ≡ nth all k.i = sym c.entry.ensures in
+    let e : u ≡ nth all k.i = sym c.entry.ensures.pair in
     let ch = item_child (noted_in l) (version_of l.version) n c.requires.node c.requires.holder in
     let new = c.gather_pair.new.spots.items in
     let g = subst (λ (y : Value). Gathers m y (n + 3) c.args.parent k.spots.items new) e
@@ -330,9 +330,9 @@ pub gather_part-gather_part-requires : goal.gather_part-gather_part-requires
 gather_part-gather_part-requires t c =
     let l = c.args.layouts.now in
     let x = value_of_ref c.inner.result in
-    let p = present_at (at l c.args.node) (value_of_ref c.args.v) x c.inner.ensures c.requires.form in
+    let p = present_at (at l c.args.node) (value_of_ref c.args.v) x c.inner.ensures.value c.requires.form in
     let ch = inner_child (noted_in l) (version_of l.version) c.args.node p.width p.inner c.requires.node p.is in (
-      omega (arith, c.decreases, ap height c.inner.ensures),
+      omega (arith, c.decreases, ap height c.inner.ensures.value),
       (ch.node, subst (λ (z : Layout). Of z x) (sym ch.is) p.form),
     )
 
@@ -389,10 +389,10 @@ gather_part-returns-in-Present t c =
     let x = value_of_ref c.inner.result in
     let u = value_of_ref c.args.v in
     let n = c.args.node in
-    let p = present_at (at l n) u x c.inner.ensures c.requires.form in
+    let p = present_at (at l n) u x c.inner.ensures.value c.requires.form in
     let ch = inner_child (noted_in l) (version_of l.version) n p.width p.inner c.requires.node p.is in
     let old = c.args.spots.now.items in
     let new = c.gather_part.new.spots.items in
     IfOk-weaker c.gather_part.result _ _ (λ y g. present_gathered (at l n) u x p.width p.inner n c.args.parent old
-    new p.is c.inner.ensures (subst (λ (z : Layout). Gathers z x (n + 2) c.args.parent old new) ch.is g))
+    new p.is c.inner.ensures.value (subst (λ (z : Layout). Gathers z x (n + 2) c.args.parent old new) ch.is g))
     c.gather_part.ensures

@@ -6,6 +6,7 @@ use Rattle.frozen_model.specs.Layouts.{need, width}
 use Rattle.frozen_model.specs.Trees.{Integer, Leaf}
 use Rattle.layout_tree.specs.Listing.{sub, tree_of, version_of}
 use Rattle.layout_tree.proofs.Codings.{first_code, second_code, is_first, is_second}
+use Rattle.layout_tree.specs.Reading.{base_at}
 use Rattle.measure_pass.proofs.leaf.need_of.Goals as goal
 
 pub returns-else-version-eq2 : goal.returns-else-version-eq2
@@ -25,7 +26,7 @@ returns-then-version-eq2 c k d e =
     let x = c.args.x in
     let b = second_code v (sub (tree_of l.nodes.items) c.args.node) k d
     (is_second v (of_z w32 c.version.result) (ap (of_z w32) c.version.ensures) c.if-version-eq2.true) e in
-    let base = c.base.ensures (Integer k) b.base (width d) (e ∙ ap (λ q. Leaf (Integer k) q) b.is) in
+    let base = c.base.ensures ∙ ap base_at (e ∙ ap (λ q. Leaf (Integer k) q) b.is) in
     let f : SFits w64 x = c.ranges.x in
     let g : SFits w64 c.base.result = search rules in
     let gap = c.abs_diff.ensures ∙ ap (λ z. nat_abs (z -ℤ to_z w64 (of_z w64 c.base.result)))

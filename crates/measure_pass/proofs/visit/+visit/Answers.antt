@@ -76,12 +76,12 @@ visit_fields-visit_part-next-requires t c =
         height_fields u c.requires.record,
         height_nth (fields_of u) k.i,
         ap height
-            c.field_at.ensures,
+            c.field_at.ensures.value,
       ),
       (
         ch.node,
         subst (λ (z : Layout). Ready z y k.next) (sym ch.is)
-            (subst (λ (z : Value). Ready (at l k.child) z k.next) (sym c.field_at.ensures) r),
+            (subst (λ (z : Value). Ready (at l k.child) z k.next) (sym c.field_at.ensures.value) r),
       ),
     )
 
@@ -101,7 +101,7 @@ visit_fields-loop-child-preserved t c =
     let next = c.visit_part-next.result in
     let e = c.past-past.ensures.part ch.node ∙ ap (λ (z : Layout). k.child + nodes z) ch.is in
     let w = subst (λ (z : Value). Visited (at l k.child) z k.layouts mid k.child k.next next)
-    c.field_at.ensures (subst (λ (z : Layout). Visited z y k.layouts mid k.child k.next next) ch.is
+    c.field_at.ensures.value (subst (λ (z : Layout). Visited z y k.layouts mid k.child k.next next) ch.is
     c.visit_part-next.ensures) in
     fields_next c.past-past.result k.invariant lt e (λ id ms vs o os r. field_visited e w r)
 
@@ -146,7 +146,7 @@ visit_items-visit_part-next-requires t c =
     let k = c.loop-i in
     let u = value_of_ref c.item.result in
     let lt : k.i < count all = omega (arith, c.len-n.ensures) in
-    let e : u ≡ nth all k.i = c.item.ensures in
+    let e : u ≡ nth all k.i = c.item.ensures.value in
     let ch : Child (noted_in k.layouts) (version_of k.layouts.version) (n + 3) m = same_child
     k.invariant.holds.same (item_child (tree_of l.nodes.items) (version_of l.version) n c.requires.node
     c.requires.holder) in
@@ -176,7 +176,7 @@ visit_items-loop-i-preserved t c =
     let k = c.loop-i in
     let u = value_of_ref c.item.result in
     let lt : k.i < count all = omega (arith, c.len-n.ensures) in
-    let e : u ≡ nth all k.i = c.item.ensures in
+    let e : u ≡ nth all k.i = c.item.ensures.value in
     let ch : Child (noted_in k.layouts) (version_of k.layouts.version) (n + 3) m = same_child
     k.invariant.holds.same (item_child (tree_of l.nodes.items) (version_of l.version) n c.requires.node
     c.requires.holder) in
@@ -216,7 +216,7 @@ visit_pairs-visit_pair-next-requires t c =
     let k = c.loop-i in
     let u = pair (value_of_ref c.entry.result.0) (value_of_ref c.entry.result.1) in
     let lt : k.i < count all = omega (arith, c.len-n.ensures) in
-    let e : u ≡ nth all k.i = sym c.entry.ensures in
+    let e : u ≡ nth all k.i = sym c.entry.ensures.pair in
     let ch : Child (noted_in k.layouts) (version_of k.layouts.version) (n + 3) m = same_child
     k.invariant.holds.same (item_child (tree_of l.nodes.items) (version_of l.version) n c.requires.node
     c.requires.holder) in
@@ -246,7 +246,7 @@ visit_pairs-loop-i-preserved t c =
     let k = c.loop-i in
     let u = pair (value_of_ref c.entry.result.0) (value_of_ref c.entry.result.1) in
     let lt : k.i < count all = omega (arith, c.len-n.ensures) in
-    let e : u ≡ nth all k.i = sym c.entry.ensures in
+    let e : u ≡ nth all k.i = sym c.entry.ensures.pair in
     let ch : Child (noted_in k.layouts) (version_of k.layouts.version) (n + 3) m = same_child
     k.invariant.holds.same (item_child (tree_of l.nodes.items) (version_of l.version) n c.requires.node
     c.requires.holder) in
@@ -599,15 +599,15 @@ visit_part-visit_part-requires t c =
     let f = c.note-in-Present.ensures in
     let x = value_of_ref c.inner.result in
     let u = value_of_ref c.args.v in
-    let p = present_at (at l c.args.node) u x c.inner.ensures c.requires.ready.form in
+    let p = present_at (at l c.args.node) u x c.inner.ensures.value c.requires.ready.form in
     let s : Same l m = record { layout = f.layout } in
     let ch : Child (noted_in m) (version_of m.version) (c.args.node + 2) p.inner = same_child s
     (inner_child (noted_in l) (version_of l.version) c.args.node p.width p.inner c.requires.node p.is) in (
-      omega (arith, c.decreases, ap height c.inner.ensures),
+      omega (arith, c.decreases, ap height c.inner.ensures.value),
       (
         ch.node,
         subst (λ (z : Layout). Ready z x c.args.from) (sym ch.is)
-            (inner_ready (at l c.args.node) u x c.args.from p c.inner.ensures c.requires.ready),
+            (inner_ready (at l c.args.node) u x c.args.from p c.inner.ensures.value c.requires.ready),
       ),
     )
 
@@ -714,11 +714,11 @@ visit_part-returns-in-Present t c =
     let x = value_of_ref c.inner.result in
     let u = value_of_ref c.args.v in
     let r = c.visit_part in
-    let p = present_at (at l c.args.node) u x c.inner.ensures c.requires.ready.form in
+    let p = present_at (at l c.args.node) u x c.inner.ensures.value c.requires.ready.form in
     let s : Same l m = record { layout = f.layout } in
     let ch : Child (noted_in m) (version_of m.version) (c.args.node + 2) p.inner = same_child s
     (inner_child (noted_in l) (version_of l.version) c.args.node p.width p.inner c.requires.node p.is) in
     let w = subst (λ (z : Layout). Visited z x m r.new.layouts (c.args.node + 2) c.args.from r.result) ch.is
     r.ensures in
     visited_present (at l c.args.node) u x p.width p.inner l m r.new.layouts c.args.node c.args.from r.result p.is
-    c.inner.ensures f.noted s w
+    c.inner.ensures.value f.noted s w

@@ -1,16 +1,15 @@
 -- The keys are put in order, and then the nodes are taken by their places.
-use Rattle.std.proofs.Common.{◌≡◌, ◌≢◌, ◌∙◌, ◌+◌, ◌*◌, ◌<◌, ℕ, List, refl, ap, sym, subst, length, map, nat_lt, slice_index_or, arith}
-use Rattle.std.specs.List.{All, AllByRecursion, AllPairs, list_all}
-use Rattle.std.proofs.lemmas.List.{length-map}
+use Rattle.std.proofs.Common.{◌≢◌, ◌∙◌, ◌+◌, ◌*◌, ◌<◌, List, refl, ap, sym, subst, length, nat_lt}
+use Rattle.std.specs.List.{AllPairs, list_all}
 use Rattle.std.proofs.lemmas.List.Elements.{recursion_from_All}
 use Rattle.std.proofs.lemmas.Result.{err_from_is_err_and}
-use Rattle.frozen_model.specs.Values.{Value, Absent, key_of}
+use Rattle.frozen_model.specs.Values.{Value}
 use Rattle.key_order.specs.Keys.{AreOneKind}
 use Rattle.typed_tree.specs.Parts.{pairs}
 use Rattle.typed_tree.specs.Pools.{values_of}
-use Rattle.typed_tree.specs.Tables.{IsFaultOf, AreOrdered, picked, turned}
+use Rattle.typed_tree.specs.Tables.{IsFaultOf, turned}
 use Rattle.typed_tree.specs.Trees.{trees_in}
-use Rattle.typed_tree.proofs.Paired.{half-evens, keys-of-pairs, below-evens, turned-pairs, turned-below, turned-even, inside-turns}
+use Rattle.typed_tree.proofs.Paired.{keys-of-pairs, below-evens, turned-pairs, turned-below, turned-even, inside-turns}
 use Rattle.typed_tree.proofs.entries.entries_in_order.Goals as goal
 
 pub places_in_order-requires-clause-there : goal.places_in_order-requires-clause-there
@@ -63,3 +62,9 @@ returns-clause-still c =
     let ps = c.in_ok-places.places.items in
     let inside = inside-turns vs ks ps c.deref.result.now ps (c.deref.ensures.value ∙ c.in_ok-keys.ensures) refl c.in_ok-places.ensures.ordered.inside in
     ap (list_all (λ k. nat_lt k n)) (c.in_ok-by_turns.ensures ∙ ap (turned ks) c.deref-2.ensures.value) ∙ turned-below vs ks n ps (recursion_from_All (λ p. 2 * p + 1 < length ks) ps inside) c.requires.there
+
+pub returns-clause-taken : goal.returns-clause-taken
+returns-clause-taken c =
+    let ps = c.in_ok-places.places.items in
+    let inside = inside-turns (values_of c.args.pool.now) c.args.nodes.now ps c.deref.result.now ps (c.deref.ensures.value ∙ c.in_ok-keys.ensures) refl c.in_ok-places.ensures.ordered.inside in
+    (ps, c.in_ok-by_turns.ensures ∙ ap (turned c.args.nodes.now) c.deref-2.ensures.value, recursion_from_All (λ p. 2 * p + 1 < length c.args.nodes.now) ps inside)

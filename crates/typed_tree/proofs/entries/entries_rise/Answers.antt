@@ -1,9 +1,8 @@
 -- One key after another is above the one before.
-use Rattle.std.proofs.Common.{◌≡◌, ◌∙◌, ◌-◌, ◌*◌, ◌<◌, List, ℕ, true, sym, ap, subst, length, slice_index_or, arith, rules}
-use Rattle.std.specs.List.{AllAdjacentBelow}
+use Rattle.std.proofs.Common.{◌∙◌, ◌-◌, sym, subst, slice_index_or, arith, rules}
 use Rattle.std.proofs.lemmas.List.{length-map}
-use Rattle.frozen_model.specs.Values.{Value, Absent, key_less}
-use Rattle.key_order.specs.Keys.{AreOneKind, AreRising, IsOneKind}
+use Rattle.frozen_model.specs.Values.{Absent}
+use Rattle.key_order.specs.Keys.{AreOneKind, AreRising}
 use Rattle.typed_tree.specs.Pools.{values_of}
 use Rattle.typed_tree.specs.Tables.{evens}
 use Rattle.typed_tree.proofs.Keyed.{one-kind-at, rising-more}

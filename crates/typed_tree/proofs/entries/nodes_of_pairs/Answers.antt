@@ -1,5 +1,5 @@
 -- Two nodes are added for each place.
-use Rattle.std.proofs.Common.{◌≡◌, ◌∙◌, ◌++◌, ◌∷◌, [], ◌+◌, ◌*◌, List, ℕ, ap, sym, get_or, take, append_assoc, arith}
+use Rattle.std.proofs.Common.{◌∙◌, ◌++◌, ◌∷◌, [], ◌+◌, ◌*◌, List, ℕ, ap, sym, get_or, take, arith}
 use Rattle.std.proofs.lemmas.List.{take_more}
 use Rattle.typed_tree.specs.Tables.{turned}
 use Rattle.typed_tree.proofs.Paired.{turned-push}

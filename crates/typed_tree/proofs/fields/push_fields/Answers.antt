@@ -1,6 +1,6 @@
 -- One link after another is added.
 use Rattle.std.proofs.Common.{◌≡◌, ◌∙◌, ◌++◌, ◌∷◌, [], List, get_or, ap, sym, length, take, map, append_assoc, subst, rules, arith}
-use Rattle.std.specs.Prelude.{zip, min, pos, All, FitsSigned}
+use Rattle.std.specs.Prelude.{zip, pos, All, FitsSigned}
 use Rattle.std.specs.Int.{w16}
 use Rattle.std.proofs.lemmas.List.{length-map, get_or-map, take_all}
 use Rattle.std.proofs.lemmas.List.Elements.{All-more}

@@ -1,5 +1,5 @@
 -- One key after another is above the one before.
-use Rattle.std.proofs.Common.{◌≡◌, ◌∙◌, ◌-◌, ◌<◌, true, sym, length, slice_index_or, arith, rules}
+use Rattle.std.proofs.Common.{◌∙◌, ◌-◌, sym, slice_index_or, arith, rules}
 use Rattle.std.proofs.lemmas.List.{length-map}
 use Rattle.frozen_model.specs.Values.{Absent}
 use Rattle.typed_tree.specs.Pools.{values_of}

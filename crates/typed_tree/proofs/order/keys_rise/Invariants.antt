@@ -1,5 +1,5 @@
 -- The first of the keys rise.
-use Rattle.std.proofs.Common.{◌≡◌, ◌≤◌, true}
+use Rattle.std.proofs.Common.{◌≡◌, true}
 use Rattle.std.specs.List.{AllAdjacentBelow}
 use Rattle.frozen_model.specs.Values.{key_less}
 use Rattle.typed_tree.specs.Pools.{values_of}

@@ -1,5 +1,5 @@
 -- A field is smaller than its struct, and adds its cells to those before.
-use Rattle.std.proofs.Common.{◌≡◌, ◌∙◌, ◌+◌, ◌*◌, ap, sym, take, length, arith}
+use Rattle.std.proofs.Common.{◌≡◌, ◌∙◌, ap, sym, take, length, arith}
 use Rattle.std.proofs.Math.Seq.{take-length}
 use Rattle.std.specs.List.{sum_by}
 use Rattle.idl_profile.specs.Types.{fields_of}

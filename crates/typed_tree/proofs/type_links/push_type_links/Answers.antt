@@ -1,5 +1,5 @@
 -- One link after another is added.
-use Rattle.std.proofs.Common.{◌≡◌, ◌∙◌, ◌++◌, ◌∷◌, [], ℕ, List, get_or, ap, sym, length, take, map, append_assoc, arith}
+use Rattle.std.proofs.Common.{◌≡◌, ◌∙◌, ◌++◌, ◌∷◌, [], List, get_or, ap, sym, length, take, map, append_assoc, arith}
 use Rattle.std.proofs.lemmas.List.{length-map}
 use Rattle.std.specs.Prelude.{zip, unsigned_abs}
 use Rattle.std.proofs.lemmas.Int.{to_z-of_z}

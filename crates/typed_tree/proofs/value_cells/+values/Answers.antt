@@ -59,14 +59,14 @@ pub row_cells-cells-item-requires : goal.row_cells-cells-item-requires
 row_cells-cells-item-requires t c =
     let k = kinds_of (type_of_ref c.args.element) in
     let inside : c.loop-i.i < count (items_of (value_of_ref c.args.row)) = omega (arith, c.loop-i-test.true, c.len-i-end.ensures) in
-    (omega (arith, c.decreases), subst (Of k) (sym c.item.ensures) (each-at c.requires.items c.loop-i.i inside))
+    (omega (arith, c.decreases), subst (Of k) (sym c.item.ensures.value) (each-at c.requires.items c.loop-i.i inside))
 
 pub row_cells-loop-i-preserved : goal.row_cells-loop-i-preserved
 row_cells-loop-i-preserved t c =
     let k = kinds_of (type_of_ref c.args.element) in
     let vs = items_of (value_of_ref c.args.row) in
     let inside : c.loop-i.i < count vs = omega (arith, c.loop-i-test.true, c.len-i-end.ensures) in
-    item-more k vs c.loop-i.i c.loop-i.total c.cells-item.result c.saturating_add.result _ inside c.loop-i.invariant (c.cells-item.ensures ∙ ap (λ v. capped (cells k v)) c.item.ensures) c.saturating_add.ensures c.saturating_add-total.ensures
+    item-more k vs c.loop-i.i c.loop-i.total c.cells-item.result c.saturating_add.result _ inside c.loop-i.invariant (c.cells-item.ensures ∙ ap (λ v. capped (cells k v)) c.item.ensures.value) c.saturating_add.ensures c.saturating_add-total.ensures
 
 pub row_cells-returns : goal.row_cells-returns
 row_cells-returns t c =
@@ -80,19 +80,19 @@ pub map_cells-cells-first_cells-requires : goal.map_cells-cells-first_cells-requ
 map_cells-cells-first_cells-requires t c =
     let vs = items_of (value_of_ref c.args.map) in
     let inside : c.loop-i.i < count vs = omega (arith, c.loop-i-test.true, c.loop-i.auto.i-end, c.len-i-end.ensures) in
-    (omega (arith, c.decreases), key-of-pair (kinds_of (type_of_ref c.args.key)) (kinds_of (type_of_ref c.args.value)) vs c.loop-i.i _ _ c.requires.items inside c.entry.ensures)
+    (omega (arith, c.decreases), key-of-pair (kinds_of (type_of_ref c.args.key)) (kinds_of (type_of_ref c.args.value)) vs c.loop-i.i _ _ c.requires.items inside c.entry.ensures.pair)
 
 pub map_cells-cells-second_cells-requires : goal.map_cells-cells-second_cells-requires
 map_cells-cells-second_cells-requires t c =
     let vs = items_of (value_of_ref c.args.map) in
     let inside : c.loop-i.i < count vs = omega (arith, c.loop-i-test.true, c.loop-i.auto.i-end, c.len-i-end.ensures) in
-    (omega (arith, c.decreases), value-of-pair (kinds_of (type_of_ref c.args.key)) (kinds_of (type_of_ref c.args.value)) vs c.loop-i.i _ _ c.requires.items inside c.entry.ensures)
+    (omega (arith, c.decreases), value-of-pair (kinds_of (type_of_ref c.args.key)) (kinds_of (type_of_ref c.args.value)) vs c.loop-i.i _ _ c.requires.items inside c.entry.ensures.pair)
 
 pub map_cells-loop-i-preserved : goal.map_cells-loop-i-preserved
 map_cells-loop-i-preserved t c =
     let vs = items_of (value_of_ref c.args.map) in
     let inside : c.loop-i.i < count vs = omega (arith, c.loop-i-test.true, c.loop-i.auto.i-end, c.len-i-end.ensures) in
-    pair-more (kinds_of (type_of_ref c.args.key)) (kinds_of (type_of_ref c.args.value)) vs c.loop-i.i c.loop-i.total c.cells-first_cells.result c.cells-second_cells.result c.saturating_add-pair.result c.saturating_add.result _ _ _ inside c.entry.ensures c.loop-i.invariant c.cells-first_cells.ensures c.cells-second_cells.ensures c.saturating_add-pair.ensures c.saturating_add.ensures c.saturating_add-total.ensures
+    pair-more (kinds_of (type_of_ref c.args.key)) (kinds_of (type_of_ref c.args.value)) vs c.loop-i.i c.loop-i.total c.cells-first_cells.result c.cells-second_cells.result c.saturating_add-pair.result c.saturating_add.result _ _ _ inside c.entry.ensures.pair c.loop-i.invariant c.cells-first_cells.ensures c.cells-second_cells.ensures c.saturating_add-pair.ensures c.saturating_add.ensures c.saturating_add-total.ensures
 
 pub map_cells-returns : goal.map_cells-returns
 map_cells-returns t c =
@@ -119,7 +119,7 @@ record_cells-field_value_cells-field-requires t c =
     let f = field_of_ref c.field_at.result in
     let h = struct-value of_type v c.requires.kind c.requires.value in
     let less = field-smaller of_type c.loop-i.i f c.field_at.ensures in
-    let is : value_of_ref c.field_at-in-loop-i.result ≡ nth (values_in v) c.loop-i.i = c.field_at-in-loop-i.ensures ∙ ap (nth (values_in v)) c.from.ensures in
+    let is : value_of_ref c.field_at-in-loop-i.result ≡ nth (values_in v) c.loop-i.i = c.field_at-in-loop-i.ensures.value ∙ ap (nth (values_in v)) c.from.ensures in
     (omega (arith, c.decreases, less), subst (Of (field_kinds f.need f.type)) (sym is) (field-value of_type v c.loop-i.i f h c.field_at.ensures))
 
 pub record_cells-loop-i-preserved : goal.record_cells-loop-i-preserved
@@ -128,7 +128,7 @@ record_cells-loop-i-preserved t c =
     let v = value_of_ref c.args.value in
     let f = field_of_ref c.field_at.result in
     let h = struct-value of_type v c.requires.kind c.requires.value in
-    let is : value_of_ref c.field_at-in-loop-i.result ≡ nth (values_in v) c.loop-i.i = c.field_at-in-loop-i.ensures ∙ ap (nth (values_in v)) c.from.ensures in
+    let is : value_of_ref c.field_at-in-loop-i.result ≡ nth (values_in v) c.loop-i.i = c.field_at-in-loop-i.ensures.value ∙ ap (nth (values_in v)) c.from.ensures in
     field-more of_type v c.loop-i.i c.loop-i.total c.field_value_cells-field.result _ f h c.field_at.ensures c.loop-i.invariant (c.field_value_cells-field.ensures ∙ ap (λ u. capped (cells (field_kinds f.need f.type) u)) is) c.saturating_add-total.ensures
 
 pub record_cells-returns : goal.record_cells-returns
@@ -146,7 +146,7 @@ optional_cells-returns t c =
     let v = value_of_ref c.args.value in
     elim c.match-kind.branch [
       | optional_cells-in-Present w ↦
-          let is : cells (Optional tt k) v ≡ 1 + cells k (value_of_ref w.inner.result) = ap (cells (Optional tt k)) w.inner.ensures in
+          let is : cells (Optional tt k) v ≡ 1 + cells k (value_of_ref w.inner.result) = ap (cells (Optional tt k)) w.inner.ensures.value in
           omega (arith, is, w.inside-is, w.cells-inside.ensures, c.saturating_add.ensures)
       | optional_cells-in_default w ↦
           let none = absent-value v c.kind.result c.requires c.kind.ensures.form w.in_default.not-Present in

@@ -48,9 +48,9 @@ see_fields-see_part-requires t c =
         height_fields u c.requires.record,
         height_nth (fields_of u) k.i,
         ap height
-            c.field_at.ensures,
+            c.field_at.ensures.value,
       ),
-      (h.node, (subst (Of (at l k.child)) (sym c.field_at.ensures) h.form, k.auto.bounds ∙ c.requires.room)),
+      (h.node, (subst (Of (at l k.child)) (sym c.field_at.ensures.value) h.form, k.auto.bounds ∙ c.requires.room)),
     )
 
 pub see_fields-past-end-requires : goal.see_fields-past-end-requires
@@ -75,7 +75,7 @@ see_fields-loop-child-preserved t c =
     let h = fields_here k.invariant lt in
     let e = c.past-child.ensures.part h.node in
     let w = subst (λ (y : Value). Saw (at l k.child) y k.bounds c.see_part.new.bounds k.child)
-    c.field_at.ensures c.see_part.ensures in
+    c.field_at.ensures.value c.see_part.ensures in
     fields_next c.past-child.result k.invariant lt e (λ id ms vs o os r. field_seen o e w r)
 
 pub see_fields-returns : goal.see_fields-returns
@@ -107,7 +107,7 @@ see_items-see_part-requires t c =
     let ch = item_child (tree_of l.nodes.items) (version_of l.version) n c.requires.node c.requires.holder in
     let lt : k.i < count all = omega (arith, c.len-n.ensures) in
     let h = items_here k.invariant lt in
-    let e : u ≡ nth all k.i = c.item.ensures in (
+    let e : u ≡ nth all k.i = c.item.ensures.value in (
       omega (
         arith,
         c.decreases,
@@ -137,7 +137,7 @@ see_items-loop-i-preserved t c =
     let mid = c.see_part.new.bounds in
     let ch = item_child (tree_of l.nodes.items) (version_of l.version) n c.requires.node c.requires.holder in
     let lt : k.i < count all = omega (arith, c.len-n.ensures) in
-    let e : u ≡ nth all k.i = c.item.ensures in
+    let e : u ≡ nth all k.i = c.item.ensures.value in
     let w = subst (λ (y : Value). Saw m y k.bounds mid (n + 3)) e
     (subst (λ (z : Layout). Saw z u k.bounds mid (n + 3)) ch.is c.see_part.ensures) in
     items_next k.invariant lt (λ vs o os r. item_seen o os w r)
@@ -173,7 +173,7 @@ see_pairs-see_pair-requires t c =
     let ch = item_child (tree_of l.nodes.items) (version_of l.version) n c.requires.node c.requires.holder in
     let lt : k.i < count all = omega (arith, c.len-n.ensures) in
     let h = items_here k.invariant lt in
-    let e : u ≡ nth all k.i = sym c.entry.ensures in (
+    let e : u ≡ nth all k.i = sym c.entry.ensures.pair in (
       omega (
         arith,
         c.decreases,
@@ -203,7 +203,7 @@ see_pairs-loop-i-preserved t c =
     let mid = c.see_pair.new.bounds in
     let ch = item_child (tree_of l.nodes.items) (version_of l.version) n c.requires.node c.requires.holder in
     let lt : k.i < count all = omega (arith, c.len-n.ensures) in
-    let e : u ≡ nth all k.i = sym c.entry.ensures in
+    let e : u ≡ nth all k.i = sym c.entry.ensures.pair in
     let w = subst (λ (y : Value). Saw m y k.bounds mid (n + 3)) e
     (subst (λ (z : Layout). Saw z u k.bounds mid (n + 3)) ch.is c.see_pair.ensures) in
     items_next k.invariant lt (λ vs o os r. item_seen o os w r)
@@ -376,7 +376,7 @@ see_part-see_part-requires t c =
     let l = c.args.layouts.now in
     let u = value_of_ref c.args.v in
     let x = value_of_ref c.inner.result in
-    let e = c.inner.ensures in
+    let e = c.inner.ensures.value in
     let p = present_at (at l c.args.node) u x e c.requires.form in
     let ch = inner_child (tree_of l.nodes.items) (version_of l.version) c.args.node p.width p.inner
     c.requires.node p.is in (
@@ -439,7 +439,7 @@ see_part-returns-in-Present t c =
     let l = c.args.layouts.now in
     let u = value_of_ref c.args.v in
     let x = value_of_ref c.inner.result in
-    let e = c.inner.ensures in
+    let e = c.inner.ensures.value in
     let p = present_at (at l c.args.node) u x e c.requires.form in
     let ch = inner_child (tree_of l.nodes.items) (version_of l.version) c.args.node p.width p.inner
     c.requires.node p.is in

@@ -10,6 +10,7 @@ use Rattle.bit_view.specs.InPlace.{read_value}
 use Rattle.bit_view.specs.Views.{value_of_view, layout_of_view}
 use Rattle.bit_view.proofs.Shapes.{counted_items, items_holder, holder_count, item_told, pair_told}
 use Rattle.bit_view.proofs.Seen.{view_node, view_bounds, view_small, view_item, view_item_room, formed}
+use Rattle.bit_view.proofs.Pairs.{item_pair}
 use Rattle.bit_view.proofs.row.Row.item.Goals as goal
 
 pub overflow_add-result : goal.overflow_add-result
@@ -101,3 +102,11 @@ returns-clause-layout c =
     let lt = holder_count m w.content.now w.block w.bit c.args.i is c.requires in
     let l = w.layouts.now in
     (item_child (noted_in l) (version_of l.version) w.node (view_node w) h).is
+
+pub returns-clause-kind : goal.returns-clause-kind
+returns-clause-kind c =
+    let w = c.args.self.whole in
+    let is = counted_items (value_of_view w) c.args.i c.requires in
+    let l = w.layouts.now in
+    item_pair (version_of l.version) l.nodes.items w.node l.listing (view_node w) (formed w)
+    (items_holder (layout_of_view w) w.content.now w.block w.bit is) w.content.now w.block w.bit

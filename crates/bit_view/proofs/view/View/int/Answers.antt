@@ -9,6 +9,7 @@ use Rattle.layout_tree.proofs.Codings.{is_first, is_second}
 use Rattle.bit_view.proofs.Shapes.{first_told, second_told, far}
 use Rattle.bit_view.proofs.Numbers.{fits_far, sum_is}
 use Rattle.bit_view.proofs.Seen.{view_node, view_bounds, view_far}
+use Rattle.layout_tree.specs.Reading.{base_at}
 use Rattle.bit_view.proofs.view.View.int.Goals as goal
 
 pub bits-width-requires : goal.bits-width-requires
@@ -32,7 +33,7 @@ overflow_cast-result c =
     (of_z w32) c.version.ensures) c.if-version-eq2.true in
     let is = second_told v (sub
     (noted_in l) w.node) w.content.now w.block w.bit c.bits-width.result n c.base.result
-    second c.requires c.read_bits-above.ensures.value c.bits-width.ensures.bits c.base.ensures in
+    second c.requires c.read_bits-above.ensures.value c.bits-width.ensures.bits (λ k b w e. c.base.ensures ∙ ap base_at e) in
     let fits = fits_far (c.base.result +ℤ pos n) (subst (λ u. far u < 2 ^ 63) is (view_far w)) in
     let sum = sum_is c.from.result c.from-then-version-eq2.result c.base.result (c.base.result +ℤ pos n) n
     (c.from.ensures ∙ to_z-of_z w64 c.base.result g) c.from-then-version-eq2.ensures g
@@ -55,7 +56,7 @@ returns-then-version-eq2 c =
     (of_z w32) c.version.ensures) c.if-version-eq2.true in
     let is = second_told v (sub
     (noted_in l) w.node) w.content.now w.block w.bit c.bits-width.result n c.base.result
-    second c.requires c.read_bits-above.ensures.value c.bits-width.ensures.bits c.base.ensures in
+    second c.requires c.read_bits-above.ensures.value c.bits-width.ensures.bits (λ k b w e. c.base.ensures ∙ ap base_at e) in
     let fits = fits_far z (subst (λ u. far u < 2 ^ 63) is (view_far w)) in
     let sum = sum_is c.from.result c.from-then-version-eq2.result c.base.result z n
     (c.from.ensures ∙ to_z-of_z w64 c.base.result g) c.from-then-version-eq2.ensures g

@@ -9,4 +9,4 @@ kind-requires c = view_node c.args.self
 pub returns-clause-form : goal.returns-clause-form
 returns-clause-form c =
     let w = c.args.self in
-    kind_told (layout_of_view w) w.content.now w.block w.bit c.kind.result c.kind.ensures (view_text w)
+    kind_told (layout_of_view w) w.content.now w.block w.bit c.kind.result c.kind.ensures.kind (view_text w)

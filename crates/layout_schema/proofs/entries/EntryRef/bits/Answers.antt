@@ -8,10 +8,10 @@ pub field_at-requires : goal.field_at-requires
 field_at-requires c = omega (arith, (entry_form (value_of_ref c.args.self.layout) c.requires).many)
 
 pub int-requires : goal.int-requires
-int-requires c = subst IsInt (sym c.field_at.ensures) (is_int (entry_form (value_of_ref c.args.self.layout) c.requires).bits)
+int-requires c = subst IsInt (sym c.field_at.ensures.value) (is_int (entry_form (value_of_ref c.args.self.layout) c.requires).bits)
 
 pub overflow_cast-result : goal.overflow_cast-result
-overflow_cast-result c = fits_cast (entry_form (value_of_ref c.args.self.layout) c.requires).bits (sym c.field_at.ensures ∙ c.int.ensures)
+overflow_cast-result c = fits_cast (entry_form (value_of_ref c.args.self.layout) c.requires).bits (sym c.field_at.ensures.value ∙ c.int.ensures)
 
 pub returns : goal.returns
-returns c = cast_16 (entry_form (value_of_ref c.args.self.layout) c.requires).bits (sym c.field_at.ensures ∙ c.int.ensures)
+returns c = cast_16 (entry_form (value_of_ref c.args.self.layout) c.requires).bits (sym c.field_at.ensures.value ∙ c.int.ensures)

@@ -9,9 +9,9 @@ pub field_at-requires : goal.field_at-requires
 field_at-requires c = omega (arith, (entry_form (value_of_ref c.args.self.layout) c.requires).many)
 
 pub len-requires : goal.len-requires
-len-requires c = subst IsItems (sym c.field_at.ensures) (is_items (entry_form (value_of_ref c.args.self.layout) c.requires).children)
+len-requires c = subst IsItems (sym c.field_at.ensures.value) (is_items (entry_form (value_of_ref c.args.self.layout) c.requires).children)
 
 pub returns : goal.returns
 returns c =
-    c.len.ensures ∙ ap (λ v. count (items_of v)) c.field_at.ensures
+    c.len.ensures ∙ ap (λ v. count (items_of v)) c.field_at.ensures.value
     ∙ sym (child_count (items_of (nth (fields_of (value_of_ref c.args.self.layout)) 2)))

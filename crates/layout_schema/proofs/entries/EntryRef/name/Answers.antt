@@ -8,4 +8,4 @@ pub field_at-requires : goal.field_at-requires
 field_at-requires c = omega (arith, (entry_form (value_of_ref c.args.self.layout) c.requires).many)
 
 pub bytes-requires : goal.bytes-requires
-bytes-requires c = subst IsBytes (sym c.field_at.ensures) (entry_form (value_of_ref c.args.self.layout) c.requires).name
+bytes-requires c = subst IsBytes (sym c.field_at.ensures.value) (entry_form (value_of_ref c.args.self.layout) c.requires).name

@@ -5,4 +5,4 @@ use Rattle.layout_schema.proofs.ReadEntries.{entry_form, is_int}
 use Rattle.layout_schema.proofs.entries.EntryRef.size.Goals as goal
 
 pub int-requires : goal.int-requires
-int-requires c = subst IsInt (sym c.field_at.ensures) (is_int (entry_form (value_of_ref c.args.self.layout) c.requires).size)
+int-requires c = subst IsInt (sym c.field_at.ensures.value) (is_int (entry_form (value_of_ref c.args.self.layout) c.requires).size)

@@ -2,8 +2,9 @@ use Rattle.std.proofs.Common.{arith, ap, ◌∙◌, rules, w64}
 use Rattle.std.proofs.lemmas.Int.{to_z-of_z}
 use mir.Val.{SFits}
 use Rattle.layout_tree.specs.Listing.{tree_of, sub, version_of}
+use Rattle.layout_tree.proofs.Describing.{kept_bases}
 use Rattle.layout_tree.proofs.Place.{at_part, some_nodes}
-use Rattle.layout_tree.proofs.Readings.{base_read}
+use Rattle.layout_tree.proofs.Readings.{base_read, bases_part}
 use Rattle.layout_tree.proofs.layouts.Layouts.base.Goals as goal
 
 pub index-spec-requires : goal.index-spec-requires
@@ -14,10 +15,12 @@ index-spec-requires c =
     omega (arith, ns.ok.0, a.within, some_nodes s)
 
 pub returns : goal.returns
-returns c k b w e =
-    let ns = c.args.self.now.nodes.items in
+returns c =
+    let l = c.args.self.now in
+    let ns = l.nodes.items in
+    let v = version_of l.version in
     let x = c.index-spec.result.now in
-    let a = at_part ns (sub (tree_of ns) c.args.node) c.args.node c.args.self.now.listing c.requires in
+    let a = at_part ns (sub (tree_of ns) c.args.node) c.args.node l.listing c.requires in
     let f : SFits w64 x.base = search rules in
     to_z-of_z w64 x.base f ∙ ap (λ x. x.base) c.index-spec.ensures
-    ∙ base_read (version_of c.args.self.now.version) a x k b w e
+    ∙ base_read v a x (bases_part v c.requires (kept_bases l))

@@ -31,4 +31,4 @@ returns c =
     let le : length l.nodes.items ≤ k.i = omega (arith, l.nodes.ok.0) in
     let s = renewed l.version (version_of l.version) l.nodes.items k.nodes.items l.listing l.sound
     (k.invariant ∙ ap (map cleared) (take_all k.i l.nodes.items le)) in
-    record { layout = s.layout; settled = s.settled }
+    record { layout = s.layout; settled = s.settled; noted = s.tells }

@@ -36,4 +36,10 @@ returns c =
           (arith, c.mark_part.auto.nodes, ap length c.deref_mut.ensures.value))
           (c.mark_part.ensures (whole_given c.deref_mut.result.now c.deref_mut.ensures.value
           c.requires.is))).settled;
+      noted = λ d h. (takes d ns.items c.deref_mut.result.now c.mark_part.new.nodes c.args.version
+          c.args.relaxed c.form_version.result ns.len c.mark_part.result c.deref_mut.ensures.value h
+          (c.form_version.ensures d.version (to_z-of_z w32 c.args.version c.ranges.version ∙ h.numbered))
+          (omega (arith, ns.ok.0)) (omega
+          (arith, c.mark_part.auto.nodes, ap length c.deref_mut.ensures.value))
+          (c.mark_part.ensures (whole_given c.deref_mut.result.now c.deref_mut.ensures.value h))).tells;
     }

@@ -1,6 +1,5 @@
-use Rattle.std.proofs.Common.{arith, ap, sym, ◌∙◌, map, slice_get, Some}
-use Rattle.layout_tree.specs.Given.{shown}
-use Rattle.layout_tree.proofs.Numbers.{in_list, get_shown}
+use Rattle.std.proofs.Common.{arith, ap, sym, ◌∙◌, Some}
+use Rattle.layout_tree.proofs.Numbers.{in_list, get_listed}
 use Rattle.layout_tree.proofs.layouts.Layouts.node.Goals as goal
 
 pub index-requires : goal.index-requires
@@ -12,9 +11,8 @@ pub returns : goal.returns
 returns c =
     let l = c.args.self.now in
     let x = c.index.result.now in
-    ap (λ r. slice_get (map shown r) c.args.node) (sym l.listing)
-    ∙ get_shown l.nodes.items c.args.node x (in_list l.nodes.items c.args.node l.listing c.requires)
-    c.index.ensures
+    get_listed l.nodes.items c.args.node x l.listing
+    (in_list l.nodes.items c.args.node l.listing c.requires) c.index.ensures
     ∙ ap (λ w. Some (record {
       kind = x.kind;
       field = x.field;

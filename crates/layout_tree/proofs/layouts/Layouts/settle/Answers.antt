@@ -44,3 +44,13 @@ returns-clause-settled c =
     let twice = ap settled s.tells ∙ settled_twice (tree_of ns) ∙ sym s.tells in
     ap (λ (m : Layout). described (version_of l.version) l.relaxed m)
     (ap (layout_in (version_of l.version)) twice)
+
+pub returns-clause-noted : goal.returns-clause-noted
+returns-clause-noted c =
+    let l = c.args.self.now in
+    let ns = l.nodes.items in
+    let xs = c.deref_mut.result.now in
+    (settles l.version ns xs c.settle_part.new.nodes l.nodes.len c.settle_part.result
+    c.deref_mut.ensures.value l.listing l.sound (omega (arith, l.nodes.ok.0))
+    (omega (arith, c.settle_part.auto.nodes, ap length c.deref_mut.ensures.value))
+    (c.settle_part.ensures (whole_segment l.version ns xs c.deref_mut.ensures.value l.listing l.sound))).tells

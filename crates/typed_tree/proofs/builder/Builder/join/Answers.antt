@@ -1,14 +1,13 @@
 -- The last trees become the items of one.
-use Rattle.std.proofs.Common.{◌≡◌, ◌∙◌, ◌+◌, ◌-◌, List, [], ap, refl, drop, length, vec_len, vec_capacity, arith}
+use Rattle.std.proofs.Common.{◌≡◌, ◌∙◌, ◌+◌, ◌-◌, List, ap, refl, drop, length, vec_len, vec_capacity, arith, map}
 use Rattle.frozen_model.specs.Values.{Value}
 use Rattle.typed_tree.specs.Pools.{store_of, values_of}
-use Rattle.typed_tree.specs.declared.spot.Spot.{Spot}
-use Rattle.typed_tree.specs.Spots.{fits_at, value_of, values}
-use Rattle.typed_tree.proofs.Grow.{known-stays}
+use Rattle.typed_tree.specs.Spots.{fits_at, value_of, item_link}
 use Rattle.typed_tree.specs.References.{spot_kind}
 use Rattle.typed_tree.specs.Trees.{trees_in, joined}
 use Rattle.typed_tree.proofs.Builders.{values-kept, cut-trees, cut-kinds, joins-after, joined-value, joined-fits, joined-kind, trees-from}
-use Rattle.typed_tree.proofs.Stack.{items-fit, below-cut-is, below-rest-is, rest-is, length-rest}
+use Rattle.typed_tree.proofs.Stack.{items-fit, below-cut-is, below-rest-is, rest-is, length-rest, below-drop}
+use Rattle.typed_tree.proofs.Making.{join-made, makes-cut, trees-many}
 use Rattle.typed_tree.proofs.builder.Builder.join.Goals as goal
 
 pub invariant_of-self : goal.invariant_of-self
@@ -44,8 +43,8 @@ put-requires-clause-fit c =
     (rest-is c.args.base c.deref.result.now ∙ ap (drop c.args.base) c.deref.ensures.value) in
     ap (fits_at st n) c.joined_spot.ensures ∙ joined-fits c.args.to st n run (items-fit st n run _ c.add_items-run.ensures.inside c.add_items-run.ensures.added low)
 
-pub returns : goal.returns
-returns c =
+pub returns-clause-joined : goal.returns-clause-joined
+returns-clause-joined c =
     let b = c.args.self.now in
     let q = c.add_items-run.new.self in
     let p = c.add_items-run.ensures in
@@ -59,3 +58,16 @@ returns c =
     (ap (value_of (store_of q) (values_of q)) c.joined_spot.ensures ∙ joined-value c.args.to (store_of q) (values_of q) c.add_items-run.result _ p.added
     ∙ ap (joined c.args.to) (trees-from q b.stack.items c.args.base c.deref.result.now c.deref.ensures.value ∙ ap (λ (vs : List Value). drop c.args.base (trees_in vs b.stack.items)) kept))
     (ap spot_kind c.joined_spot.ensures ∙ joined-kind c.args.to c.add_items-run.result) refl
+
+pub returns-clause-made : goal.returns-clause-made
+returns-clause-made c t h =
+    let b = c.args.self.now in
+    let q = c.add_items-run.new.self in
+    let p = c.add_items-run.ensures in
+    let base = c.args.base in
+    let nodes = ap (λ v. v.items) p.nodes in
+    let slice = rest-is base c.deref.result.now ∙ ap (drop base) c.deref.ensures.value in
+    let links = p.added ∙ ap (map item_link) slice in
+    let low = below-drop (length b.pool.nodes.items) base b.stack.items b.placed in
+    let made = join-made b q p.grows nodes c.args.to t c.add_items-run.result _ _ c.joined_spot.ensures links low h in
+    makes-cut b _ c.put.new.self base (length b.stack.items - base) _ (c.put.ensures.made _ made) p.grows nodes c.truncate.ensures.items c.requires.base (omega (arith, trees-many b, c.requires.base))

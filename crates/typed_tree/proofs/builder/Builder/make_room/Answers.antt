@@ -1,5 +1,5 @@
 -- Only the room and the memory change.
-use Rattle.typed_tree.proofs.Builders.{on-failure, on-success, same-trees, same-kinds}
+use Rattle.typed_tree.proofs.Builders.{on-failure, on-success}
 use Rattle.typed_tree.proofs.builder.Builder.make_room.Goals as goal
 
 pub returns-clause-failed : goal.returns-clause-failed

@@ -1,6 +1,5 @@
 -- A node is put once there is room.
 use Rattle.std.proofs.Common.{◌∙◌, ap, List}
-use Rattle.frozen_model.specs.Values.{Value}
 use Rattle.typed_tree.specs.Pools.{store_of}
 use Rattle.typed_tree.specs.Rooms.{room_of}
 use Rattle.typed_tree.specs.Spots.{Store, value_of, values}

@@ -2,6 +2,7 @@
 use Rattle.std.proofs.Common.{◌∙◌, ap, vec_len, vec_capacity, length, arith}
 use Rattle.typed_tree.specs.Pools.{store_of}
 use Rattle.typed_tree.proofs.Builders.{same-store, one-less}
+use Rattle.typed_tree.proofs.Making.{makes-put}
 use Rattle.typed_tree.proofs.Stack.{trees-put-is, kinds-put-is, below-put-is}
 use Rattle.typed_tree.proofs.builder.Builder.put.Goals as goal
 
@@ -25,16 +26,21 @@ invariant_of-self c =
       for_bytes = omega (arith, b.for_bytes, taken, size);
     }
 
-pub returns : goal.returns
-returns c =
+pub returns-clause-pushed : goal.returns-clause-pushed
+returns-clause-pushed c =
     let b = c.args.self.now in
     let p = c.put.ensures in
     let number = c.len-number.ensures ∙ b.pool.nodes.ok.0 in
     let store = same-store b.pool c.put.new.self p.links p.bytes in
     record {
-      pushed = record {
-        trees = trees-put-is (store_of b.pool) _ b.pool.nodes.items _ b.stack.items _ c.args.spot c.len-number.result b.placed number store p.nodes c.push_reserved.ensures.items;
-        kinds = kinds-put-is b.pool.nodes.items _ b.stack.items _ c.args.spot c.len-number.result b.placed number p.nodes c.push_reserved.ensures.items;
-        room = one-less b.room.nodes b.room.bytes;
-      };
+      trees = trees-put-is (store_of b.pool) _ b.pool.nodes.items _ b.stack.items _ c.args.spot c.len-number.result b.placed number store p.nodes c.push_reserved.ensures.items;
+      kinds = kinds-put-is b.pool.nodes.items _ b.stack.items _ c.args.spot c.len-number.result b.placed number p.nodes c.push_reserved.ensures.items;
+      room = one-less b.room.nodes b.room.bytes;
     }
+
+pub returns-clause-made : goal.returns-clause-made
+returns-clause-made c t h =
+    let b = c.args.self.now in
+    let p = c.put.ensures in
+    let number = c.len-number.ensures ∙ b.pool.nodes.ok.0 in
+    makes-put b _ c.args.spot c.len-number.result t (same-store b.pool c.put.new.self p.links p.bytes) p.nodes c.push_reserved.ensures.items number c.requires.fit h

@@ -1,6 +1,4 @@
 -- The bytes are the last of those in use.
-use Rattle.std.proofs.Common.{arith, ap}
-use Rattle.std.proofs.lemmas.List.{length-append}
 use Rattle.typed_tree.specs.Pools.{store_of}
 use Rattle.typed_tree.proofs.Grow.{fits-stays}
 use Rattle.typed_tree.proofs.Growing.{added-part, grows-bytes}

@@ -1,5 +1,5 @@
 -- The links are the last ones, and sorted.
-use Rattle.std.proofs.Common.{◌∙◌, length, map, nat_lt, sym, ap, arith}
+use Rattle.std.proofs.Common.{◌∙◌, length, map, nat_lt, sym, ap}
 use Rattle.std.specs.Prelude.{zip}
 use Rattle.std.proofs.lemmas.List.{length-map}
 use Rattle.base_lists.specs.InOrder.{in_order}

@@ -88,7 +88,7 @@ fn filled(alloc: Global, len: usize) -> Result<Vec<u8>, AllocError> {
 }
 
 // Each named file: a definition, a value and its file, and others that are refused.
-fn files_of(alloc: Global, fail: u64, by_bytes: bool) -> Result<MemFiles, AllocError> {
+fn files_of(alloc: Global, line: &str, faults: Faults) -> Result<MemFiles, AllocError> {
     let held = [
         ("def", DEF),
         ("value", VALUE),
@@ -127,12 +127,12 @@ fn files_of(alloc: Global, fail: u64, by_bytes: bool) -> Result<MemFiles, AllocE
         }
         files.push((String::from_str(alloc, name)?, bytes))?;
     }
-    // no run by bytes reads this one
-    if !by_bytes {
+    // one run alone reads this one
+    if line == "freeze long gone" {
         files.push((String::from_str(alloc, "long")?, filled(alloc, 1_048_577)?))?;
     }
-    let step = if by_bytes { 1 } else { 2_000_000 };
-    Ok(MemFiles::new(files, step, vec![in alloc; fail]?))
+    let step = if faults.by_bytes { 1 } else { 2_000_000 };
+    Ok(MemFiles::new(files, step, vec![in alloc; faults.read]?))
 }
 
 // Runs the words of a line; out and err take one byte or at most ten a write.
@@ -141,7 +141,7 @@ fn run_line(alloc: Global, line: &str, faults: Faults) -> Result<Ran, AllocError
     for word in line.split_whitespace() {
         words.push(String::from_str(alloc, word)?)?;
     }
-    let mut files = files_of(alloc, faults.read, faults.by_bytes)?;
+    let mut files = files_of(alloc, line, faults)?;
     let step = if faults.by_bytes { 1 } else { 10 };
     let mut out = MemSink::new(alloc, faults.room, step, vec![in alloc; faults.write]?)?;
     let mut err = MemSink::new(alloc, 100, step, vec![in alloc; faults.line]?)?;
@@ -164,7 +164,7 @@ fn a_field_of_a_file_is_shown(rt: HostRuntime) -> Result<(), Fail> {
 fn a_start_without_words_ends(rt: HostRuntime) -> Result<(), Fail> {
     let alloc = rt.alloc();
     for (kind, status) in [(ErrorKind::OutOfMemory, 6), (ErrorKind::InvalidData, 2)] {
-        let mut files = files_of(alloc, 0, false)?;
+        let mut files = files_of(alloc, "", NO_FAULTS)?;
         let mut out = MemSink::new(alloc, 100, 10, Vec::new(alloc))?;
         let mut err = MemSink::new(alloc, 100, 10, Vec::new(alloc))?;
         let words = Err(io::Error::from(kind));

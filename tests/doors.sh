@@ -10,7 +10,7 @@ top=$(cd "$(dirname "$0")/.." && pwd) || exit 1
 real=
 [ "$1" = --real ] && real=yes && shift
 bin=$1
-for found in "$top/build/frozen" "$top/crates/frozen_cli/out/frozen_cli"; do
+for found in "$top/build/frozen" "$top/crates/frozen/out/frozen"; do
     [ "$bin" ] || [ ! -x "$found" ] || bin=$found
 done
 [ -x "$bin" ] || { echo "no built program: give one, or run ./frozen build"; exit 1; }
@@ -23,10 +23,10 @@ failed=0
 
 # A house with the script, and no sources but names.
 house() {
-    mkdir -p "$1/crates/frozen_cli/src" "$1/.ci" && cp "$top/frozen" "$top/VERSION" "$1" && cp "$top/.ci/sources" "$top/.ci/build" "$1/.ci"
+    mkdir -p "$1/crates/frozen/src" "$1/.ci" && cp "$top/frozen" "$top/VERSION" "$1" && cp "$top/.ci/sources" "$top/.ci/build" "$1/.ci"
     : >"$1/crates.txt"
     : >"$1/HANDLES"
-    echo "$1" >"$1/crates/frozen_cli/src/main.rt"
+    echo "$1" >"$1/crates/frozen/src/main.rt"
 }
 house "$room/proved"
 mkdir "$room/proved/build"
@@ -52,7 +52,7 @@ try)
     ;;
 run)
     [ ! "\$RT_IS_SILENT" ] || exit 1
-    mkdir -p out && cp "$bin" out/frozen_cli
+    mkdir -p out && cp "$bin" out/frozen
     ;;
 esac
 END
@@ -363,7 +363,7 @@ check 'build' 0 none_at_all ''
 run print d
 check 'print, after build' 0 printed ''
 says 0
-echo more >>"$room/quick/crates/frozen_cli/src/main.rt"
+echo more >>"$room/quick/crates/frozen/src/main.rt"
 run print d
 check 'print, after an edit' 0 printed ''
 says 1

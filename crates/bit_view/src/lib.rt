@@ -14,6 +14,3 @@ pub use laws::view_is_part;
 pub use row::Row;
 pub use struct_fields::StructFields;
 pub use view::View;
-
-#[cfg(test)]
-mod tests;

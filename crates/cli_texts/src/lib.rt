@@ -9,6 +9,3 @@ mod text;
 pub use demo::{DEMO_DEF, demo_users};
 pub use laws::demo_def_means_the_demo;
 pub use text::layout_text;
-
-#[cfg(test)]
-mod tests;

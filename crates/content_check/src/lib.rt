@@ -15,6 +15,3 @@ mod sure;
 
 pub use fault::ContentFault;
 pub use open::check_content;
-
-#[cfg(test)]
-mod tests;

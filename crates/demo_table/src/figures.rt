@@ -18,7 +18,7 @@ use std::sync::ledger::Blank;
 use typed_tree::cells;
 
 /// What a demo came to.
-#[derive(Clone, Copy, Debug)]
+#[derive(Clone, Copy)]
 pub struct DemoFigures {
     /// How many users there are.
     pub rows: u32,

@@ -9,6 +9,3 @@ mod opening;
 pub use figures::{DemoFigures, demo, demo_line};
 pub use laws::{own_file_is_short, own_file_opens, own_file_thaws};
 pub use lookups::id_path;
-
-#[cfg(test)]
-mod tests;

@@ -19,7 +19,7 @@ use std::sync::ledger::{Blank, Ledger};
 use thrift_idl::TypeKind;
 
 /// What lookups of all users came to.
-#[derive(Clone, Copy, Debug)]
+#[derive(Clone, Copy)]
 pub(crate) struct Tally {
     /// How many of them answered the number of their user.
     pub(crate) found: u32,

@@ -25,6 +25,3 @@ pub use plan::Plan;
 pub use root::root_lens;
 pub use row::{LensRow, StoredRow};
 pub use scanning::scan;
-
-#[cfg(test)]
-mod tests;

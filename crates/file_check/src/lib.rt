@@ -15,6 +15,3 @@ pub use front::header;
 pub use laws::{files_are_unique, opened_composes, opening_is_exact};
 pub use open::open_frozen;
 pub use opened::Opened;
-
-#[cfg(test)]
-mod tests;

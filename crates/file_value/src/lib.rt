@@ -5,6 +5,3 @@ mod putting;
 mod whole;
 
 pub use whole::value_of;
-
-#[cfg(test)]
-mod tests;

@@ -9,6 +9,3 @@ mod write;
 
 pub use least::{Frozen, freeze, measure_alone};
 pub use pack::freeze_into;
-
-#[cfg(test)]
-mod tests;

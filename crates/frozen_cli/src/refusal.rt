@@ -13,7 +13,7 @@ use thrift_idl::DefFault;
 use typed_reading::ValueFault;
 
 /// What a named file is read for.
-#[derive(Clone, Copy, Debug, PartialEq, Eq)]
+#[derive(Clone, Copy, PartialEq, Eq)]
 pub enum Role {
     /// The text of the definition.
     Definition,
@@ -24,7 +24,7 @@ pub enum Role {
 }
 
 /// Why a command is refused.
-#[derive(Debug, Drop)]
+#[derive(Drop)]
 pub enum Refusal {
     /// The words have no form.
     Usage,
@@ -55,7 +55,7 @@ pub enum Refusal {
 }
 
 /// Why a command has no output.
-#[derive(Debug, Drop)]
+#[derive(Drop)]
 pub enum Failure {
     /// It is refused.
     Refused(Refusal),

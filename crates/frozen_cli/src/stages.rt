@@ -294,7 +294,7 @@ pub fn thawed(alloc: Global, root: Lens<'_>) -> Result<Vec<u8>, Failure>
     ensures no_file { IsErrAnd result (IsRefused IsReading) → ⊥ }
 {
     match thaw(alloc, root) {
-        Ok(bytes) => Ok(bytes),
+        Ok(spelling) => Ok(spelling),
         Err(ThawFault::TooManyCells(cells)) => Err(Failure::Refused(Refusal::TooManyCells(cells))),
         Err(ThawFault::NoMemory) => Err(Failure::NoMemory),
     }

@@ -10,7 +10,7 @@ ghost use Rattle.frozen_cli.specs.Words.{form_in};
 use crate::refusal::{Failure, Refusal};
 
 /// How the part at a path is shown.
-#[derive(Clone, Copy, Debug, PartialEq, Eq)]
+#[derive(Clone, Copy, PartialEq, Eq)]
 pub enum Showing {
     /// On one line.
     Whole,
@@ -19,7 +19,7 @@ pub enum Showing {
 }
 
 /// A command with its words.
-#[derive(Clone, Copy, Debug)]
+#[derive(Clone, Copy)]
 pub enum Command<'a> {
     /// `freeze DEF VALUE`
     Freeze {

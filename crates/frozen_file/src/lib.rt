@@ -4,6 +4,3 @@
 mod file;
 
 pub use file::{frozen_file, refrozen_file};
-
-#[cfg(test)]
-mod tests;

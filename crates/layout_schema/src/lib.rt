@@ -17,6 +17,3 @@ pub use fault::SchemaFault;
 pub use laws::{schemas_are_exact, schemas_are_short, written_schema_is_schema};
 pub use reading::read_schema;
 pub use write::write_schema;
-
-#[cfg(test)]
-mod tests;

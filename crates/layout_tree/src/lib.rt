@@ -13,6 +13,3 @@ pub use blank::shape;
 pub use laws::layouts_are_described;
 pub use layouts::Layouts;
 pub use node::{Kind, NodeSpec};
-
-#[cfg(test)]
-mod tests;

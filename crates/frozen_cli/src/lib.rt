@@ -1,0 +1,15 @@
+//! What the program `frozen` does with its words, over any files and sinks.
+#![tactic(auto)]
+
+mod answer;
+mod deliver;
+mod ids;
+mod laws;
+mod refusal;
+mod running;
+mod stages;
+mod wanted;
+mod words;
+
+pub use laws::frozen_thaws;
+pub use running::{run, start};

@@ -11,5 +11,5 @@ mod stages;
 mod wanted;
 mod words;
 
-pub use laws::frozen_thaws;
+pub use laws::{frozen_thaws, run_in_memory_is_replied};
 pub use running::{run, start};

@@ -24,7 +24,7 @@ pub use lens::{Lacked, Lens, Stored};
 pub use plan::Plan;
 pub use root::root_lens;
 pub use row::{LensRow, StoredRow};
-pub use scanning::scan;
+pub use scanning::{scan, scan_places};
 
 #[cfg(test)]
 mod tests;

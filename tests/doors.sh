@@ -23,7 +23,7 @@ failed=0
 
 # A house with the script, and no sources but names.
 house() {
-    mkdir -p "$1/crates/frozen_cli/src" "$1/.ci" && cp "$top/frozen" "$1" && cp "$top/.ci/sources" "$1/.ci"
+    mkdir -p "$1/crates/frozen_cli/src" "$1/.ci" && cp "$top/frozen" "$top/VERSION" "$1" && cp "$top/.ci/sources" "$top/.ci/build" "$1/.ci"
     : >"$1/crates.txt"
     : >"$1/HANDLES"
     echo "$1" >"$1/crates/frozen_cli/src/main.rt"
@@ -120,6 +120,140 @@ strip() {
     said=$(grep -c '^frozen: this is a quick build' all)
 }
 
+# Runs the script with err a terminal.
+run_on_terminal() {
+    python3 - "$script" "$@" <<'END' >all
+import os, pty, subprocess, sys
+terminal, err = pty.openpty()
+with open("out", "wb") as out:
+    child = subprocess.Popen(sys.argv[1:], stdin=subprocess.DEVNULL, stdout=out, stderr=err)
+os.close(err)
+said = b""
+while True:
+    try:
+        part = os.read(terminal, 4096)
+    except OSError:
+        break
+    if not part:
+        break
+    said += part
+with open("ended", "w") as ended:
+    ended.write(str(child.wait()))
+sys.stdout.buffer.write(said.replace(b"\r\n", b"\n"))
+END
+    status=$(cat ended)
+    strip
+}
+
+# Help, the version and words without a form, which no program is asked for.
+doors_without_a_program() {
+    for word in help --help -h; do
+        run $word
+        grep -q '^  print DEF ' out && : >out
+        check "$word" 0 none_at_all ''
+        says 0
+    done
+    run help get
+    grep -q '^usage: ./frozen get DEF FILE PATH$' out && grep -q '^  PATH ' out && : >out
+    check 'help of a command' 0 none_at_all ''
+    run get --help
+    grep -q '^usage: ./frozen get DEF FILE PATH$' out && : >out
+    check 'a command and --help' 0 none_at_all ''
+    run help frobnicate
+    check 'help of no command' 2 none_at_all 'usage: frozen COMMAND WORDS'
+    run --version
+    grep -q '^frozen [0-9.]*: ' out && : >out
+    check 'the version' 0 none_at_all ''
+    says 0
+    "$script" help >/dev/full 2>all
+    status=$?
+    : >out
+    strip
+    check 'help, out is full' 5 none_at_all 'write failed'
+    for words in '' 'frobnicate d' 'print d d' 'get d f' 'demo 0' 'demo 100001' 'demo 1x' 'print d --output' 'freeze - -'; do
+        run $words
+        check "words without a form: $words" 2 none_at_all 'usage: frozen COMMAND WORDS'
+        says 0
+    done
+    run print d "$(printf 'd\377')"
+    check 'too many words, one of which is no text' 2 none_at_all ''
+    run_on_terminal get d f
+    tail -n 1 err >hint
+    grep -q '^frozen: get takes DEF FILE PATH;' hint && sed -i '$d' err
+    check 'too few words, on a terminal' 2 none_at_all 'usage: frozen COMMAND WORDS'
+}
+
+# explained NAME LINE HINT: the last run on a terminal ended with the program's line and this line of help behind it.
+explained() {
+    tail -n 1 err >hint
+    grep -q "$3" hint && sed -i '$d' err
+    check "$1" 3 none_at_all "$2"
+}
+
+# What the script says on a terminal behind a refusal of the program.
+explanations() {
+    printf 'struct P {\n  1: double x\n}\n' >refused
+    run_on_terminal print refused
+    explained 'a fault of a definition' 'definition 3 line 2' '^frozen: line 2 of the definition has .*: *1: double x$'
+    printf '\357\273\277struct P {1: i32 x}' >refused
+    run_on_terminal print refused
+    explained 'a definition behind a byte order mark' 'definition 2 line 1' 'byte order mark'
+    run_on_terminal get f d .x
+    explained 'a frozen file as a definition' 'definition 1' 'the definition looks like a frozen file'
+    printf '{"x": 5}' >refused
+    run_on_terminal freeze d refused
+    explained 'JSON as a value' 'value wire 2 at 0' 'the value looks like JSON'
+    printf '\010\000\001\000\000\000\005\000' >refused
+    run_on_terminal freeze d refused
+    explained 'Binary Protocol as a value' 'value wire 2 at 1' 'the value looks like Binary Protocol'
+    run_on_terminal get d d .x
+    explained 'a definition as a frozen file' 'file 1' 'the file is no frozen file'
+    run_on_terminal print d
+    check 'nothing to explain' 0 printed ''
+}
+
+# Standard input and the file of the output.
+files_of_the_script() {
+    "$script" print - <d >out 2>all
+    status=$?
+    strip
+    check 'the name - is standard input' 0 printed ''
+    cat v | "$script" freeze d - >out 2>all
+    status=$?
+    strip
+    check 'the name - is a pipe on standard input' 0 f ''
+    "$script" print - <&- >out 2>all
+    status=$?
+    strip
+    check 'the name -, with no standard input' 4 none_at_all 'definition unreadable'
+    cp d ./-
+    run print ./-
+    check 'a file whose name is -' 0 printed ''
+    rm -f ./- made
+    run freeze d v --output made
+    check 'an output file' 0 none_at_all ''
+    mv made out
+    check 'what it holds' 0 f ''
+    run --output=made print d
+    check 'an output file, named in front' 0 none_at_all ''
+    cp made out
+    check 'what it holds' 0 printed ''
+    run freeze d d --output made
+    check 'an output file, of a refused value' 3 none_at_all 'value wire 2 at 0'
+    cp made out
+    check 'it holds what it held' 3 printed 'value wire 2 at 0'
+    run freeze d none --output unmade
+    check 'an output file, of a missing value' 4 none_at_all 'value missing'
+    [ ! -e unmade ] && [ "$(ls | grep -c '\.new$')" = 0 ] && passed=$((passed + 1)) || {
+        failed=$((failed + 1))
+        echo "FAIL $which: a refused run leaves a file"
+    }
+    run print d --output folder
+    check 'a folder as an output file' 5 none_at_all 'write failed'
+    run print d --output none/made
+    check 'an output file in no folder' 5 none_at_all 'write failed'
+}
+
 cases() {
     which=$1
     script=$room/$1/frozen
@@ -150,12 +284,6 @@ cases() {
     check 'an empty path' 0 whole ''
     run get d f .none
     check 'no such field' 2 none_at_all 'path 2 at 0'
-    run
-    check 'no words' 2 none_at_all 'usage: frozen COMMAND WORDS'
-    run frobnicate d
-    check 'no such command' 2 none_at_all 'usage: frozen COMMAND WORDS'
-    run print d d
-    check 'too many words' 2 none_at_all 'usage: frozen COMMAND WORDS'
     run print "$(printf 'd\377')"
     check 'a word that is no text' 2 none_at_all ''
 
@@ -195,16 +323,9 @@ cases() {
     strip
     check 'err is full' 5 none_at_all ''
 
-    "$script" help >out 2>all
-    status=$?
-    strip
-    grep -q '^  print DEF ' out && : >out
-    check help 0 none_at_all ''
-    "$script" help >/dev/full 2>all
-    status=$?
-    : >out
-    strip
-    check 'help, out is full' 5 none_at_all 'write failed'
+    doors_without_a_program
+    explanations
+    files_of_the_script
     ln -sf "$script" by_link
     script=./by_link
     run print d

@@ -6,6 +6,3 @@ mod span;
 
 pub use laws::{insertion_moves, stable_sort_is_insertion};
 pub use span::{Span, text_at};
-
-#[cfg(test)]
-mod tests;

@@ -10,6 +10,3 @@ pub use need::{need_signed, need_unsigned};
 pub use read::{all_zero, read_bits, read_signed};
 pub use word::ones;
 pub use write::write_bits;
-
-#[cfg(test)]
-mod tests;

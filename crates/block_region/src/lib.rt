@@ -7,6 +7,3 @@ mod region;
 
 pub use block::Block;
 pub use region::Region;
-
-#[cfg(test)]
-mod tests;

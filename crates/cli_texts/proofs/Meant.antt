@@ -17,7 +17,7 @@ use Rattle.idl_profile.specs.DefText.{DefTokens}
 use Rattle.idl_parse.specs.Parsed.{DefText}
 use Rattle.idl_print.specs.Printed.{printed}
 use Rattle.idl_print.specs.Written.{written}
-use Rattle.idl_print.proofs.Proper.{IsName, IsProper, NamedFits}
+use Rattle.idl_proper.specs.Proper.{IsName, IsProper, NamedFits}
 use Rattle.idl_print.proofs.SpelledText.{written-spelled}
 use Rattle.idl_print.proofs.SameText.{same-text}
 use Rattle.idl_print.proofs.PrintedLaw.{proper-tokens}

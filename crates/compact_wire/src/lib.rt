@@ -28,6 +28,3 @@ pub use scalars::{read_eight, read_taken};
 pub use whole::read_wire;
 pub use wire::Wire;
 pub use writing::{push_binary, push_field_header, push_sequence_header, write_wire};
-
-#[cfg(test)]
-mod tests;

@@ -9,6 +9,3 @@ pub use laws::{
     texts_are_unique,
 };
 pub use stop::{ReadError, Stop};
-
-#[cfg(test)]
-mod tests;

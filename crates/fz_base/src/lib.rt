@@ -20,6 +20,3 @@ pub use memory_sinks::{MemSink, SureSink};
 pub use sinks::{Sink, SinkFault};
 pub use steps::Steps;
 pub use whole::{ReadFault, read_whole, write_whole};
-
-#[cfg(test)]
-mod tests;

@@ -11,6 +11,3 @@ mod structs;
 mod whole;
 
 pub use whole::read_definitions;
-
-#[cfg(test)]
-mod tests;

@@ -23,6 +23,3 @@ pub use scope::Scope;
 pub use sizes::Size;
 pub use types::read_type;
 pub use words::{has_backslash, is_among};
-
-#[cfg(test)]
-mod tests;

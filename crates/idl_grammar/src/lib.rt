@@ -6,6 +6,3 @@ mod laws;
 
 pub use fault::{Fault, LineFault, ReadError};
 pub use laws::{HasGrammar, reading_is_exact, tokens_have_one_answer};
-
-#[cfg(test)]
-mod tests;

@@ -16,6 +16,3 @@ pub use idl_profile::{Need, TypeKind};
 pub use laws::texts_have_one_answer;
 pub use parsing::parse;
 pub use parts::parts_of;
-
-#[cfg(test)]
-mod tests;

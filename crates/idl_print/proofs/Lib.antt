@@ -1,16 +1,9 @@
-pub mod Lists
 pub mod PrintedTokens
 pub mod Pieces
 pub mod Numbers
 pub mod TextTokens
-pub mod Proper
 pub mod Spelled
 pub mod SpelledText
-pub mod Rising
-pub mod TokensFit
-pub mod Meant
-pub mod MeantFields
-pub mod MeantText
 pub mod PrintedLaw
 pub mod Loops
 pub mod SameText

@@ -8,13 +8,9 @@ use Rattle.std.proofs.lemmas.Bool.Decides.{nat_tests}
 use Rattle.idl_tokens.specs.Characters.{is_space, is_digit, is_hex_digit, is_word_start, is_word_character, is_in_line}
 use Rattle.idl_tokens.specs.Numbers.{digit_value, value_behind, value, hex_len, make_magnitude, magnitude, in_64_bits}
 use Rattle.idl_tokens.specs.Tokens.{behind_sign, unsigned_number, token, number, front, spot, Toks, tokens_behind}
-use Rattle.idl_print.proofs.Lists.{front-taken}
-use Rattle.idl_print.proofs.Pieces.{Every, Apart, front-len, every-append, every-map, passed, same_line}
-
--- the numbers of 64 bits
-abbrev pub Is64 : ℤ → Type 0
-Is64 (pos n) = n < 2 ^ 63
-Is64 (negsuc n) = suc n ≤ 2 ^ 63
+use Rattle.idl_proper.proofs.Lists.{front-taken}
+use Rattle.idl_proper.specs.Proper.{Every, Is64}
+use Rattle.idl_print.proofs.Pieces.{Apart, front-len, every-append, every-map, passed, same_line}
 
 digit-is : (n : ℕ) → n < 10 → is_digit (48 + n) ≡ true
 digit-is n h = grind (arith, nat_tests)

@@ -1,17 +1,12 @@
 -- The tokens of pieces of a printed text before its rest.
-use Rattle.std.proofs.Common.{append_assoc, length-append, ◌⊎◌, inl, inr, ◌≡◌, ℕ, suc, ◌+◌, Bool, true, false, ◌==◌, ◌||◌, List, [], ◌∷◌, ◌++◌, length, refl, sym, ap, ◌∙◌, arith}
+use Rattle.std.proofs.Common.{append_assoc, length-append, inl, inr, ◌≡◌, ℕ, suc, ◌+◌, Bool, true, false, ◌==◌, ◌||◌, List, [], ◌∷◌, ◌++◌, length, refl, sym, ap, ◌∙◌, arith}
 use Rattle.std.specs.List.{prefix_len, list_any}
-use Rattle.std.specs.Str.{IsUtf8}
-use Rattle.idl_print.proofs.Lists.{front-taken, front-dropped, neither}
+use Rattle.idl_proper.proofs.Lists.{front-taken, front-dropped, neither}
+use Rattle.idl_proper.specs.Proper.{Every, IsWord, Quoted, IsLiteral}
 use Rattle.idl_print.specs.Printed.{literal_text}
 use Rattle.std.proofs.lemmas.Bool.Decides.{nat_tests}
 use Rattle.idl_tokens.specs.Characters.{is_space, is_word_start, is_word_character, is_in_line, is_in_literal}
 use Rattle.idl_tokens.specs.Tokens.{behind_quote, token, word, literal, front, spot, Toks, line_after, tokens_behind}
-
--- every byte passes a test
-abbrev pub Every : (ℕ → Bool) → List ℕ → Type 0
-Every p [] = Unit {0}
-Every p (c ∷ cs) = (p c ≡ true) × Every p cs
 
 -- a text that no word and no number goes on with
 abbrev pub Apart : List ℕ → Type 0
@@ -42,10 +37,6 @@ every-map p q [] f h = tt
 every-map p q (c ∷ w) f h = (f c h.0, every-map p q w f h.1)
 
 -- ---- words
-
-abbrev pub IsWord : List ℕ → Type 0
-IsWord [] = ⊥
-IsWord (c ∷ w) = (is_word_start c ≡ true) × Every is_word_character w
 
 no_word-ahead : (rest : List ℕ) → Apart rest → prefix_len is_word_character rest ≡ 0
 no_word-ahead [] h = refl
@@ -100,13 +91,6 @@ literal-by q x rest l h line_fault same line in_line is =
 
 in_line-literal : (q c : ℕ) → is_in_literal q c ≡ true → is_in_line c ≡ true
 in_line-literal q c h = grind (arith, nat_tests)
-
--- what can stand between two " or two '
-abbrev pub Quoted : List ℕ → Type 0
-Quoted x = Every (is_in_literal 34) x ⊎ Every (is_in_literal 39) x
-
-abbrev pub IsLiteral : List ℕ → Type 0
-IsLiteral x = Quoted x × IsUtf8 x
 
 no_quote : (x : List ℕ) → Every (is_in_literal 34) x → list_any (λ c. c == 34) x ≡ false
 no_quote [] h = refl

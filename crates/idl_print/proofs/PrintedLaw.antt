@@ -10,15 +10,15 @@ use Rattle.idl_profile.specs.Text.{whole}
 use Rattle.idl_profile.specs.DefText.{DefTokens, has_struct}
 use Rattle.idl_parse.specs.Parsed.{definition_in, DefText}
 use Rattle.idl_print.specs.Printed as p
-use Rattle.idl_print.specs.Written.{name, name_at, written}
+use Rattle.idl_proper.specs.Proper.{AllFit, DefaultFits, FieldFits, IsProper, IsWord, MemberFits, name, NamedFits, TypeFits}
+use Rattle.idl_print.specs.Written.{name_at, written}
 use Rattle.idl_print.proofs.PrintedTokens.{printed_tokens}
-use Rattle.idl_print.proofs.Pieces.{IsWord}
-use Rattle.idl_print.proofs.TextTokens.{Each, TypeWords, DefaultText, FieldText, MemberText, NamedText, tokens-written}
-use Rattle.idl_print.proofs.Proper.{each-map, TypeFits, DefaultFits, FieldFits, MemberFits, NamedFits, AllFit, IsProper}
+use Rattle.idl_profile.proofs.Each.{Each}
+use Rattle.idl_print.proofs.TextTokens.{TypeWords, DefaultText, FieldText, MemberText, NamedText, tokens-written}
+use Rattle.idl_proper.proofs.Proper.{each-map}
 use Rattle.idl_print.proofs.SpelledText.{written-spelled}
-use Rattle.idl_print.proofs.TokensFit.{tokens-fit}
-use Rattle.idl_print.proofs.MeantFields.{i32-64, id-64}
-use Rattle.idl_print.proofs.MeantText.{meant-proper}
+use Rattle.idl_proper.proofs.Meaning.{proper-from}
+use Rattle.idl_proper.proofs.MeantFields.{i32-64, id-64}
 use Rattle.idl_print.proofs.SameText.{same-text}
 use Rattle.idl_print.proofs.Utf8.{all-utf8}
 
@@ -70,9 +70,6 @@ module _ (all : List m.MeantNamed) (proper : IsProper all) where
 -- The tokens of the text of a proper definition.
 pub proper-tokens : (d : List m.MeantNamed) → IsProper d → tokens (written d) ≡ printed_tokens d
 proper-tokens d h = tokens-written d (all-text d h [] d refl h)
-
-pub proper-from : (text : List ℕ) (d : List m.MeantNamed) → IsUtf8 text → DefTokens (tokens text) d → IsProper d
-proper-from text d u h = subst IsProper (sym h.means) (meant-proper h.scope (tokens text) h.rest h.spells (tokens-fit text u))
 
 -- What some text means is what its own text means.
 written-means : (d : List m.MeantNamed) → IsProper d → has_struct d ≡ true → DefTokens (tokens (written d)) d

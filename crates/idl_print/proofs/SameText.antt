@@ -1,7 +1,7 @@
 -- What the code writes of a proper definition is its text.
 use Rattle.std.proofs.Common.{◌≡◌, ◌⊎◌, inl, inr, ℕ, zero, suc, ◌<◌, Bool, true, false, List, [], ◌∷◌, ◌++◌, length, Some, refl, sym, ap, ◌∙◌, arith, append_assoc, append-nil, length-append}
 use Rattle.std.specs.Prelude.{codes, slice_get}
-use Rattle.std.specs.List.{fold, flat_map}
+use Rattle.std.specs.List.{flat_map}
 use Rattle.std.specs.Fmt.{signed_decimal}
 use Rattle.std.proofs.lemmas.List.Concat.{flat_map-append}
 use Rattle.idl_profile.specs.declared.kinds.BaseType.{BaseType}
@@ -13,13 +13,13 @@ use Rattle.idl_profile.specs.Measures.{scalar_tree, at, tree, fields, named_of, 
 use Rattle.idl_parse.specs.Parsed.{nameds, definition_in}
 use Rattle.idl_parse.proofs.Standing.{at_front, at_last}
 use Rattle.idl_parse.proofs.Rooting.{nameds-append}
-use Rattle.idl_print.proofs.Lists.{get-here, get-last}
+use Rattle.idl_proper.proofs.Lists.{get-here, get-last}
 use Rattle.idl_profile.proofs.Growing.{grown}
 use Rattle.idl_print.specs.Printed as p
 use Rattle.idl_print.specs.Printed.{newline, need_text, member_text}
-use Rattle.idl_print.specs.Written.{name, name_at, name_if, scalar_text, type_text, empty_text, default_text, field_text, named_text, written}
-use Rattle.idl_print.proofs.TextTokens.{Each}
-use Rattle.idl_print.proofs.Proper.{TypeFits, FieldFits, NamedFits, AllFit, IsProper}
+use Rattle.idl_proper.specs.Proper.{AllFit, FieldFits, IsProper, name, NamedFits, TypeFits}
+use Rattle.idl_print.specs.Written.{name_at, name_if, scalar_text, type_text, empty_text, default_text, field_text, named_text, written}
+use Rattle.idl_profile.proofs.Each.{Each}
 
 -- the tree at a number is that of the enum or struct there
 abbrev Knows : List m.MeantNamed → List m.MeantNamed → List TypeTree → Type 0

@@ -15,8 +15,9 @@ use Rattle.idl_profile.specs.Judged.{yes, is_mark, is_sep, is_name, new_name, pl
 use Rattle.idl_profile.specs.Text.{ann, sep, pick, inner, need_of, if_need, default, typed, make_typed, field, one_field, fields, added}
 use Rattle.idl_print.specs.Written.{name_at, scalar_text}
 use Rattle.idl_print.proofs.PrintedTokens.{type_tokens, need_tokens, default_tokens, fields_tokens, closed}
-use Rattle.idl_print.proofs.TextTokens.{Each}
-use Rattle.idl_print.proofs.Proper.{Distinct, distinct-here, each-map, names-new, ids-new, IsName, no_keyword, TypeFits, DefaultFits, id_fits, FieldFits, FieldsApart}
+use Rattle.idl_profile.proofs.Each.{Each}
+use Rattle.idl_proper.specs.Proper.{DefaultFits, FieldFits, FieldsApart, IsName, TypeFits}
+use Rattle.idl_proper.proofs.Proper.{Distinct, distinct-here, each-map, names-new, ids-new, no_keyword, id_fits}
 
 -- ---- what is left out
 

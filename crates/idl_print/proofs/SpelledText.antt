@@ -15,11 +15,12 @@ use Rattle.idl_profile.specs.Measures.{tree, trees, named_tree, fields as tree_f
 use Rattle.name_index.specs.Names.{is_among}
 use Rattle.idl_profile.specs.Judged.{yes, is_mark, is_sep, new_name, measured, measured_struct, is_i32, counted, a_member, Members, no_members, member_names, an_enum, a_struct, begin_of, a_definition, entry_names}
 use Rattle.idl_profile.specs.Text.{closing, struct_body, struct_parts, make_parts, with_struct, own_number, member, with_member, with_enum, make_choice, enum_body, enum_parts, choice, structure, item, definition, whole}
-use Rattle.idl_print.proofs.Lists.{get-here, get-last, neither}
-use Rattle.idl_print.specs.Written.{name, name_at, name_if}
+use Rattle.idl_proper.proofs.Lists.{get-here, get-last, neither}
+use Rattle.idl_proper.specs.Proper.{AllFit, IsName, IsProper, MemberFits, MembersApart, name, NamedFits}
+use Rattle.idl_print.specs.Written.{name_at, name_if}
 use Rattle.idl_print.proofs.PrintedTokens.{fields_tokens, members_tokens, closed, all_tokens, printed_tokens}
-use Rattle.idl_print.proofs.TextTokens.{Each}
-use Rattle.idl_print.proofs.Proper.{Distinct, distinct-here, each-append, names-new, IsName, MemberFits, MembersApart, NamedFits, AllFit, IsProper}
+use Rattle.idl_profile.proofs.Each.{Each}
+use Rattle.idl_proper.proofs.Proper.{Distinct, distinct-here, each-append, names-new}
 use Rattle.idl_print.proofs.Spelled.{no_ann, no_sep, type_for, Knows, containers, name-is_new, fields-spelled}
 
 -- ---- what a struct's measures say of its types

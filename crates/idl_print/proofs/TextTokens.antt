@@ -1,5 +1,5 @@
 -- The tokens of a printed text, line by line.
-pub use Rattle.idl_profile.proofs.Each.{Each}
+use Rattle.idl_profile.proofs.Each.{Each}
 use Rattle.std.proofs.Common.{append_assoc, ◌≡◌, ℕ, ◌+◌, true, false, List, [], ◌∷◌, ◌++◌, Some, refl, ap, ◌∙◌}
 use Rattle.std.specs.Prelude.{codes}
 use Rattle.std.specs.List.{flat_map}
@@ -14,8 +14,9 @@ use Rattle.idl_profile.specs.Types as types
 use Rattle.idl_print.specs.Printed.{newline, need_text, member_text}
 use Rattle.idl_print.specs.Written.{name_at, scalar_text, type_text, empty_text, default_text, field_text, named_text, written}
 use Rattle.idl_print.proofs.PrintedTokens.{type_tokens, need_tokens, empty_tokens, default_tokens, field_tokens, fields_tokens, member_tokens, members_tokens, closed, named_tokens, all_tokens, printed_tokens}
-use Rattle.idl_print.proofs.Pieces.{Apart, IsWord, IsLiteral, word-tokens, literal-tokens}
-use Rattle.idl_print.proofs.Numbers.{Is64, number-tokens}
+use Rattle.idl_proper.specs.Proper.{Is64, IsLiteral, IsWord}
+use Rattle.idl_print.proofs.Pieces.{Apart, word-tokens, literal-tokens}
+use Rattle.idl_print.proofs.Numbers.{number-tokens}
 
 abbrev pub after : ℕ → List ℕ → Toks
 after l text = tokens_behind 0 l text

@@ -18,9 +18,9 @@ use Rattle.idl_profile.specs.Meaning as m
 use Rattle.idl_profile.specs.Types as types
 use Rattle.idl_print.specs.Printed.{newline, has_quote, quote, literal_text, need_text, member_text}
 use Rattle.idl_print.specs.Written.{name_at, scalar_text, type_text, empty_text, default_text, field_text, named_text}
-use Rattle.idl_print.proofs.Pieces.{Every, IsWord, IsLiteral}
-use Rattle.idl_print.proofs.Numbers.{Is64}
-use Rattle.idl_print.proofs.TextTokens.{Each, TypeWords, DefaultText, FieldText, MemberText, NamedText}
+use Rattle.idl_proper.specs.Proper.{Every, Is64, IsLiteral, IsWord}
+use Rattle.idl_profile.proofs.Each.{Each}
+use Rattle.idl_print.proofs.TextTokens.{TypeWords, DefaultText, FieldText, MemberText, NamedText}
 
 pub record Utf8 (bs : List ℕ) : Type 0 where
   pub is : IsUtf8 bs

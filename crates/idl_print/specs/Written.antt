@@ -6,11 +6,8 @@ use Rattle.idl_profile.specs.declared.kinds.BaseType.{BaseType}
 use Rattle.idl_profile.specs.declared.kinds.BaseType.TheVariants as k
 use Rattle.idl_profile.specs.Meaning as m
 use Rattle.idl_profile.specs.Types as types
+use Rattle.idl_proper.specs.Proper.{name}
 use Rattle.idl_print.specs.Printed.{newline, need_text, flag_text, literal_text, member_text}
-
-abbrev pub name : m.MeantNamed → List ℕ
-name (m.enum_of w ms) = w
-name (m.struct_of w fs) = w
 
 -- the name of the enum or struct at this place; a place with none stands for a bool
 abbrev pub name_if : Option m.MeantNamed → List ℕ

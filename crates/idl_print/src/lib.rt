@@ -9,6 +9,3 @@ mod values;
 
 pub use laws::printed_text_means_the_definition;
 pub use printing::print;
-
-#[cfg(test)]
-mod tests;

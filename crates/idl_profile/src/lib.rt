@@ -6,6 +6,3 @@ mod laws;
 
 pub use kinds::{BaseType, Need, TypeKind};
 pub use laws::tokens_have_one_answer;
-
-#[cfg(test)]
-mod tests;

@@ -9,6 +9,3 @@ mod token;
 
 pub use scan::split;
 pub use token::{Placed, Token};
-
-#[cfg(test)]
-mod tests;

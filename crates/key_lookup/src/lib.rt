@@ -10,6 +10,3 @@ pub use bound::lower_bound;
 pub use find::search;
 pub use keys::Keys;
 pub use numbers::Numbers;
-
-#[cfg(test)]
-mod tests;

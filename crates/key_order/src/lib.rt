@@ -7,6 +7,3 @@ mod repeats;
 
 pub use key::{Key, compare_keys};
 pub use repeats::{PlacedKey, Repeat, least_repeat};
-
-#[cfg(test)]
-mod tests;

@@ -18,8 +18,7 @@ use Rattle.idl_profile.specs.Text.{whole}
 use Rattle.idl_profile.specs.DefText.{DefTokens}
 use Rattle.idl_parse.specs.Parsed.{definition_in, DefText}
 use Rattle.idl_print.specs.Written.{written}
-use Rattle.idl_print.proofs.Pieces.{IsWord, Every}
-use Rattle.idl_print.proofs.Proper.{IsName, IsProper, NamedFits}
+use Rattle.idl_proper.specs.Proper.{Every, IsName, IsProper, IsWord, NamedFits}
 use Rattle.idl_print.proofs.SpelledText.{written-spelled}
 use Rattle.idl_print.proofs.SameText.{same-text}
 use Rattle.idl_print.proofs.PrintedLaw.{proper-tokens}

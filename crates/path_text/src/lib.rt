@@ -15,6 +15,3 @@ pub use fitting::{fit, fit_scan};
 pub use laws::paths_have_one_answer;
 pub use parse::parse_path;
 pub use path::{KeyLit, Path, Step, StepKind};
-
-#[cfg(test)]
-mod tests;

@@ -1,6 +1,6 @@
 -- The ids of the fields of each type that a reference stands for fit.
-use Rattle.std.proofs.Common.{◌≡◌, ℕ, ◌<◌, ◌≤◌, true, List, [], ◌∷◌, ◌++◌, take, length, sym, ap, subst, arith, inl, inr, length-append, append_assoc, append-nil, ◌∙◌}
-use Rattle.std.specs.List.{AllByRecursion, fold}
+use Rattle.std.proofs.Common.{◌≡◌, ℕ, true, List, [], ◌∷◌, ◌++◌, take, length, sym, ap, subst, arith, inl, inr, length-append, append_assoc, append-nil, ◌∙◌}
+use Rattle.std.specs.List.{AllByRecursion}
 use Rattle.std.proofs.lemmas.Bool.{cases_lt}
 use Rattle.std.proofs.lemmas.List.Sums.{fold-append}
 use Rattle.idl_profile.specs.declared.kinds.BaseType.TheVariants as k
@@ -14,8 +14,8 @@ use Rattle.idl_parse.specs.declared.definition.TypeRef.{TypeRef}
 use Rattle.idl_parse.specs.Parsed.{meant_of}
 use Rattle.idl_parse.specs.Refs.{visible, type_of_ref}
 use Rattle.idl_parse.proofs.Standing.{at_front, at_last, at_none}
-use Rattle.idl_print.proofs.TextTokens.{Each}
-use Rattle.idl_print.proofs.Proper.{FieldFits, NamedFits, AllFit}
+use Rattle.idl_profile.proofs.Each.{Each}
+use Rattle.idl_proper.specs.Proper.{AllFit, FieldFits, NamedFits}
 use Rattle.root_kinds.proofs.References.{is_proper, fit_taken}
 
 abbrev pub HaveIds : TypeTree → Type 0

@@ -18,14 +18,13 @@ use Rattle.idl_profile.specs.DefText.{has_struct}
 use Rattle.idl_parse.specs.Parsed.{nameds, DefText}
 use Rattle.idl_parse.proofs.Standing.{at_front, at_last, at_none}
 use Rattle.idl_parse.proofs.Rooting.{nameds-append}
-use Rattle.idl_print.proofs.Pieces.{IsLiteral}
-use Rattle.idl_print.proofs.Numbers.{Is64}
-use Rattle.idl_print.proofs.TextTokens.{Each}
-use Rattle.idl_print.proofs.Lists.{get-last}
-use Rattle.idl_print.proofs.Proper.{each-map, Distinct, TypeFits, HasEmpty, DefaultFits, id_fits, FieldFits, FieldsApart, NamedFits, AllFit}
-use Rattle.idl_print.proofs.Rising.{Below, rising-by_id}
-use Rattle.idl_print.proofs.Meant.{passed-test, held-test, ok}
-use Rattle.idl_print.proofs.PrintedLaw.{proper-from}
+use Rattle.idl_proper.specs.Proper.{AllFit, DefaultFits, FieldFits, FieldsApart, HasEmpty, Is64, IsLiteral, NamedFits, TypeFits}
+use Rattle.idl_profile.proofs.Each.{Each}
+use Rattle.idl_proper.proofs.Lists.{get-last}
+use Rattle.idl_proper.proofs.Proper.{each-map, Distinct, id_fits}
+use Rattle.idl_proper.proofs.Rising.{Below, rising-by_id}
+use Rattle.idl_proper.proofs.Meant.{passed-test, held-test, ok}
+use Rattle.idl_proper.proofs.Meaning.{proper-from}
 use Rattle.frozen_model.specs.Trees.{Rising, IsStruct}
 use Rattle.frozen_model.specs.Values.{InBits}
 use Rattle.type_kinds.specs.KindsOf.{kinds_of}

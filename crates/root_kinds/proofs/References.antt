@@ -1,5 +1,5 @@
 -- What references to the types and fields of a definition stand for is accepted.
-use Rattle.std.proofs.Common.{◌≡◌, ℕ, zero, suc, ◌<◌, Bool, true, false, ◌&&◌, if◌then◌else◌, List, [], ◌∷◌, ◌++◌, take, length, get_or, Option, Some, None, refl, sym, ap, ◌∙◌, subst, arith, append_assoc, append-nil}
+use Rattle.std.proofs.Common.{◌≡◌, ℕ, zero, suc, ◌<◌, Bool, true, false, if◌then◌else◌, List, [], ◌∷◌, ◌++◌, take, length, get_or, Option, Some, None, refl, sym, ap, ◌∙◌, subst, arith, append_assoc, append-nil}
 use Rattle.std.specs.Prelude.{ℤ, int_lt, find, string_bytes}
 use Rattle.std.specs.List.{Contains, list_all}
 use Rattle.std.specs.Str.{IsUtf8}
@@ -15,7 +15,6 @@ use Rattle.std.proofs.lemmas.Bool.{and_parts}
 use Rattle.std.proofs.lemmas.Int.{ints}
 use Rattle.std.proofs.lemmas.Str.{IsUtf8-string_bytes}
 use Rattle.idl_tokens.specs.Tokens.{tokens}
-use Rattle.idl_profile.specs.declared.kinds.BaseType.TheVariants as k
 use Rattle.idl_profile.specs.declared.kinds.TypeKind.TheVariants as kinds
 use Rattle.idl_profile.specs.Meaning as m
 use Rattle.idl_profile.specs.Measures.{tree, trees, at}
@@ -30,14 +29,13 @@ use Rattle.idl_fields.specs.View.{types_in, nameds_of, default_of}
 use Rattle.idl_parse.specs.declared.definition.Definition.{Definition}
 use Rattle.idl_parse.specs.declared.definition.TypeRef.{TypeRef}
 use Rattle.idl_parse.specs.declared.definition.FieldRef.{FieldRef}
-use Rattle.idl_parse.specs.Drafts.{rising, has_rising, draft_fields, fields_at}
+use Rattle.idl_parse.specs.Drafts.{rising, has_rising, fields_at}
 use Rattle.idl_parse.specs.Parsed.{meant_of}
 use Rattle.idl_parse.specs.Refs.{visible, type_of_ref, field_of_ref}
 use Rattle.idl_parse.proofs.HalvingLaws.{all-rise}
-use Rattle.idl_print.proofs.Pieces.{IsLiteral}
-use Rattle.idl_print.proofs.TextTokens.{Each}
-use Rattle.idl_print.proofs.Proper.{FieldFits, AllFit, IsProper}
-use Rattle.idl_print.proofs.PrintedLaw.{proper-from}
+use Rattle.idl_proper.specs.Proper.{AllFit, FieldFits, IsLiteral, IsProper}
+use Rattle.idl_profile.proofs.Each.{Each}
+use Rattle.idl_proper.proofs.Meaning.{proper-from}
 use Rattle.type_kinds.specs.Accepted.{IsAccepted, IsWritten, IsWithin}
 use Rattle.type_kinds.specs.Laws.{Any}
 use Rattle.root_kinds.proofs.Proper as proper

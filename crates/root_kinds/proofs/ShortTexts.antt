@@ -18,10 +18,10 @@ use Rattle.idl_profile.specs.Text.{pick, start, default, typed, field, one_field
 use Rattle.idl_profile.specs.Measures.{scalar_tree, at, tree, fields as tree_fields, named_tree, trees}
 use Rattle.idl_parse.specs.declared.definition.Definition.{Definition}
 use Rattle.idl_parse.specs.Parsed.{DefText, definition_of, meant_of}
-use Rattle.idl_print.proofs.TextTokens.{Each}
-use Rattle.idl_print.proofs.Proper.{each-append}
-use Rattle.idl_print.proofs.Rising.{each-by_id}
-use Rattle.idl_print.proofs.Meant.{passed-test, held-test, ok, ok-same}
+use Rattle.idl_profile.proofs.Each.{Each}
+use Rattle.idl_proper.proofs.Proper.{each-append}
+use Rattle.idl_proper.proofs.Rising.{each-by_id}
+use Rattle.idl_proper.proofs.Meant.{passed-test, held-test, ok, ok-same}
 use Rattle.type_kinds.specs.Accepted.{IsShort, HasShortTexts, HaveShortTexts}
 use Rattle.root_kinds.proofs.Proper.{root_has}
 use Rattle.root_kinds.proofs.ShortTokens.{IsShortToken, AreShort, tokens_short, left_short, turns_hold, token_short}

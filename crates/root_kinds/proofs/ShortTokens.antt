@@ -9,7 +9,7 @@ use Rattle.idl_tokens.specs.Characters.{is_space, is_digit, is_word_start, is_ma
 use Rattle.idl_tokens.specs.Numbers.{Magnitude, magnitude}
 use Rattle.idl_tokens.specs.Tokens.{Tok, literal, Toks, Front, blank, token as token_front, wrong as wrong_front, comment_end, block_comment, behind_slash, behind_quote, behind_sign, plain_front, front, more as more_front, placed, line_after, tokens_behind, tokens}
 use Rattle.idl_grammar.specs.Grammar.{Turn, Grammar, give, token, next, look, loop, Turns, done, more, Spells}
-use Rattle.idl_print.proofs.TextTokens.{Each}
+use Rattle.idl_profile.proofs.Each.{Each}
 
 module _ (most : ℕ) where
   abbrev pub IsShortToken : Tok → Type 0

@@ -6,6 +6,3 @@ pub use idl_parse::{
     texts_have_one_answer,
 };
 pub use idl_print::{print, printed_text_means_the_definition};
-
-#[cfg(test)]
-mod tests;

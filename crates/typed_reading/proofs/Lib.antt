@@ -8,6 +8,7 @@ pub mod Tables
 pub mod Structs
 pub mod Parts
 pub mod Keyed
+pub mod Kept
 pub mod FieldLaws
 pub mod TextLaws
 pub mod TypeLaws
@@ -19,5 +20,6 @@ mod Totals
 pub mod CountSteps
 pub mod Answering
 pub mod Checks
+mod FaultyLaws
 mod OwnValues
 pub mod Valued

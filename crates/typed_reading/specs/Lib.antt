@@ -6,4 +6,5 @@ pub mod Counts
 pub mod Answers
 pub mod Progress
 pub mod Marks
+pub mod Kept
 pub mod Laws

@@ -20,7 +20,7 @@ use crate::counts::{
 };
 use crate::fault::NodeFault;
 use crate::fields::{add_marks, first_missing, place_behind, set_mark, stood_behind};
-use crate::keys::{check_key, check_set_items, note_repeat};
+use crate::keys::{check_key, check_set_items, keep_key, note_repeat};
 use crate::progress::{Progress, note_fault, note_missing, pass_node, pass_to};
 use crate::texts::check_leaf;
 use crate::types::{code, elements_fit, pairs_fit};
@@ -257,7 +257,7 @@ fn check_pairs<'a>(
     for _ in 0..count {
         *sums = with_item(*sums);
         let (first, middle) = check_key(key_type, kinds.key, rest, progress, sums)?;
-        keys.push(first)?;
+        keep_key(&mut keys, kinds.key, first)?;
         let behind = check_value(
             alloc,
             value_type,

@@ -1,6 +1,7 @@
 //! The items of sets and the keys of maps.
 
-ghost use Rattle.std.specs.Prelude.{◌≡◌, ◌+◌, ◌<◌, ◌≤◌, ◌^◌, [], length, IfOk, OnOk, Ok};
+ghost use Rattle.std.specs.Prelude.{◌≡◌, ◌↔◌, ◌+◌, ◌<◌, ◌≤◌, ◌^◌, ℕ, List, [], ◌∷◌, ◌++◌, length, IfOk, OnOk, Ok, IsTrue};
+ghost use Rattle.frozen_model.specs.Values.{Value};
 ghost use Rattle.exact_reading.specs.Reading.{Meets, Gives, seen};
 ghost use Rattle.compact_wire.specs.Codes.{code_of as wire_code};
 ghost use Rattle.compact_wire.specs.Node.{Node};
@@ -14,6 +15,7 @@ ghost use Rattle.typed_reading.specs.Counts.{counted, counted_items, IsCount};
 ghost use Rattle.typed_reading.specs.Faults.{lesser, least, repeats};
 ghost use Rattle.typed_reading.specs.Keys.{key_value};
 ghost use Rattle.typed_reading.specs.Progress.{after, key_and_after, after_set};
+ghost use Rattle.typed_reading.specs.Kept.{IsOfKind, AreMore, AreKept};
 ghost use Rattle.typed_reading.specs.Marks.{Climbs, IsKeyKind, IsLeafAs};
 
 use crate::counts::{Checked, with_item, with_key};
@@ -23,7 +25,7 @@ use crate::texts::is_text;
 use compact_wire::{Kind, read_i16, read_i32, read_i64, read_number, read_taken};
 use exact_reading::{ReadError, Stop};
 use key_order::{Key, PlacedKey, least_repeat};
-use std::alloc::Global;
+use std::alloc::{AllocError, Global};
 use thrift_idl::{TypeKind, TypeRef};
 
 /// A key of a kind, and the bytes after it.
@@ -33,6 +35,7 @@ pub fn read_key(kind: Kind, bytes: &[u8]) -> Result<(Key<'_>, &[u8]), Stop>
     requires { IsKeyKind kind }
     ensures reads { Meets (λ x. (value_of x.0, x.1.now)) result (seen key_value (scalar kind bytes.now)) }
     ensures shorter { IfOk result (λ x. length x.1.now < length bytes.now) }
+    ensures of_kind { IfOk result (λ x. IsOfKind kind (value_of x.0)) }
 {
     match kind {
         Kind::Flag => {
@@ -105,6 +108,39 @@ fn behind_key(ty: TypeRef<'_>, key: Key<'_>, progress: &mut Progress)
     }
 }
 
+/// Whether so many keys are more than their kind has values, so that one of them repeats.
+#[inline(always)]
+fn must_repeat(kind: Kind, count: usize) -> bool
+    ensures { IsTrue result ↔ AreMore kind count }
+{
+    match kind {
+        Kind::Flag => count > 2,
+        Kind::I8 => count > 256,
+        Kind::I16 => count > 65_536,
+        _ => false,
+    }
+}
+
+/// Keeps a key behind the others, but not where one of these repeats already since they are more than their kind has
+/// values: the least that repeats is then among them. So at most 3 flags are kept, 257 keys of i8, and 65,537 of i16.
+#[inline(always)]
+pub fn keep_key<'a>(
+    keys: &mut Vec<PlacedKey<'a>>,
+    kind: Kind,
+    key: PlacedKey<'a>,
+) -> Result<(), AllocError>
+    requires { IsOfKind kind (value_of key.key) }
+    ensures kept { (ks : List (ℕ × Value)) → AreKept kind ks keys.old.items
+        → OnOk result (AreKept kind (ks ++ (key.entry.place, value_of key.entry.key) ∷ []) keys.new.items) }
+    ensures enough { AreMore kind (length keys.old.items) → keys.new.items ≡ keys.old.items }
+{
+    if must_repeat(kind, keys.len()) {
+        return Ok(());
+    }
+    keys.push(key)?;
+    Ok(())
+}
+
 /// A key of a key's type with the number of its node, told to the progress, and the bytes after it.
 #[inline(always)]
 pub fn check_key<'a>(
@@ -125,6 +161,7 @@ pub fn check_key<'a>(
         seen (counted (type_of_ref ty.entry) sums.old) (scalar kind bytes.now) ≡ Ok (sums.new, x.1.now)) }
     ensures next { OnOk result (progress.new.next ≡ progress.old.next + 1) }
     ensures place { IfOk result (λ x. x.0.place ≡ progress.old.next) }
+    ensures of_kind { IfOk result (λ x. IsOfKind kind (value_of x.0.key)) }
 {
     let (key, rest) = read_key(kind, bytes)?;
     let place = progress.next;
@@ -170,7 +207,7 @@ pub fn check_set_items<'a>(
     for _ in 0..count {
         *sums = with_item(*sums);
         let (key, behind) = check_key(ty, kind, rest, progress, sums)?;
-        keys.push(key)?;
+        keep_key(&mut keys, kind, key)?;
         rest = behind;
     }
     note_repeat(progress, keys.as_mut_slice());

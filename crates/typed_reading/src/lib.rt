@@ -16,6 +16,6 @@ pub use counts::Checked;
 pub use fault::{Found, NodeFault, ValueFault};
 pub use fields::{add_marks, is_marked, place_behind, set_mark};
 pub use keys::read_key;
-pub use laws::{least_fault_is_least, typed_is_a_value};
+pub use laws::{least_fault_is_least, least_faulty_node_is_answered, typed_is_a_value};
 pub use types::code;
 pub use whole::{check, find_fault};

@@ -1,5 +1,5 @@
 pub mod Deeper
-pub mod Ends
+pub mod Taken
 pub mod Openings
 pub mod Splits
 pub mod Stacks

@@ -15,6 +15,7 @@ use Rattle.compact_wire.proofs.StructLaws.{value_layer}
 use Rattle.wire_events.proofs.Deeper.{struct_alone}
 use Rattle.wire_events.specs.Steps.{BeginsStruct}
 use Rattle.compact_wire.specs.Codes.{code_of}
+use Rattle.compact_wire.specs.Spells.{IsListHeader}
 use Rattle.compact_wire.specs.Canon.{nodes_count, pairs_count}
 use Rattle.compact_wire.specs.Reads.{scalar, value, items, sequence, list_header, count, element, mapping, map_header, mapping_pairs, pairs, all_fields, number, most_bytes, signed, element_flag, signed_byte}
 use Rattle.compact_wire.proofs.ReadSteps.{mapping-none, mapping-some, mapping-pairs}
@@ -22,8 +23,9 @@ use Rattle.exact_reading.specs.Reading.{seen}
 use Rattle.wire_events.specs.Events.{Event, events, events_in, events_in_pairs, events_in_fields, first_event, list_event, set_event, map_event, struct_event}
 use Rattle.wire_events.specs.declared.frame.Frame.{Frame}
 use Rattle.wire_events.specs.declared.frame.Frame.TheVariants as f
-use Rattle.wire_events.specs.Frames.{IsLeft, items_left, pairs_left, fields_left, EndsWith}
-use Rattle.wire_events.proofs.Ends.{ends_on, one_ends, number_ends, count_ends, scalar_ends}
+use Rattle.wire_events.specs.Frames.{IsLeft, items_left, pairs_left, fields_left}
+use Rattle.wire_events.specs.Texts.{SpellsEvent, struct_text, list_text, set_text, Takes}
+use Rattle.wire_events.proofs.Taken.{RowAt, row_at, no_map_takes, map_takes, scalar_takes}
 
 pub no_read : {A : Type 0} (r : Result A Stop) (x : A) (d : Stop) → r ≡ Ok x → r ≡ Err d → ⊥
 no_read r x d e h = let q : Ok x ≡ Err d = sym e ∙ h in cc
@@ -71,36 +73,40 @@ module _ (make : ℕ → Nodes → Node) (levels : ℕ) (b : List ℕ) where
 
   -- its items are what is left
   abbrev pub IsRowOf : Kind → ℕ → List ℕ → Node → List ℕ → Type 0
-  IsRowOf kind n q x rest = (xs : Nodes) × (x ≡ make (code_of kind) xs) × (nodes_count xs ≡ n) × (items (value levels kind) n q ≡ Ok (xs, rest)) × EndsWith b q
+  IsRowOf kind n q x rest = (xs : Nodes) × (x ≡ make (code_of kind) xs) × (nodes_count xs ≡ n) × (items (value levels kind) n q ≡ Ok (xs, rest)) × RowAt kind n b q
 
-  pub row_open : (h : ListHeader) (kind : Kind) (r q : List ℕ) (n : ℕ) (x : Node) (rest : List ℕ) → one (list_header levels) b ≡ Ok (h, r) → count levels h r ≡ Ok (n, q) → kind ≡ element h
+  pub row_open : (h : ListHeader) (kind : Kind) (r q : List ℕ) (n : ℕ) (x : Node) (rest : List ℕ) → AreBytes b → one (list_header levels) b ≡ Ok (h, r) → count levels h r ≡ Ok (n, q) → kind ≡ element h
       → sequence make levels (value levels) b ≡ Ok (x, rest) → IsRowOf kind n q x rest
-  row_open h kind r q n x rest e g same is = subst (λ (z : Kind). IsRowOf z n q x rest) (sym same) (by (items (value levels (element h)) n q) refl (sym (row_is h r q n e g) ∙ is))
+  row_open h kind r q n x rest bytes e g same is = subst (λ (z : Kind). IsRowOf z n q x rest) (sym same) (by (items (value levels (element h)) n q) refl (sym (row_is h r q n e g) ∙ is))
     where
       by : (o : Result (Nodes × List ℕ) Stop) → items (value levels (element h)) n q ≡ o → (o >>= made_of (make (code_of (element h)))) ≡ Ok (x, rest) → IsRowOf (element h) n q x rest
       by (Ok p) i j =
           let o = ok_is (make (code_of (element h)) p.0) x p.1 rest j in
           let at = i ∙ ap (λ (z : List ℕ). Ok (p.0, z)) o.1 in
-          (p.0, sym o.0, items_count (value levels (element h)) n q p.0 rest at, at, ends_on b r q (one_ends (list_header levels) b h r e) (count_ends levels h r n q g))
+          (p.0, sym o.0, items_count (value levels (element h)) n q p.0 rest at, at, row_at levels b h r n q bytes e g)
       by (Err d) i j = absurd cc
 
 abbrev Behind : ℕ → Event → Frame → List ℕ → List ℕ → Node → List ℕ → Type 0
-Behind levels e g b q x rest = (es : List Event) × (events x ≡ e ∷ es) × ((0 < suc levels) × IsLeft (suc levels - 1) g es q rest) × EndsWith b q
+Behind levels e g b q x rest = (es : List Event) × (events x ≡ e ∷ es) × ((0 < suc levels) × IsLeft (suc levels - 1) g es q rest) × Takes e b q
 
 one_less : (levels : ℕ) (g : Frame) (es : List Event) (q rest : List ℕ) → IsLeft levels g es q rest → (0 < suc levels) × IsLeft (suc levels - 1) g es q rest
 one_less levels g es q rest h = let e : levels ≡ suc levels - 1 = omega arith in (omega arith, subst (λ (l : ℕ). IsLeft l g es q rest) e h)
+
+-- a header's bytes, where its code is told by another number
+rows : (event : ℕ → ℕ → Event) (kind : Kind) (n : ℕ) (b q : List ℕ) → ((t : List ℕ) → IsListHeader kind n t → SpellsEvent (event (code_of kind) n) t) → RowAt kind n b q → (c : ℕ) → c ≡ code_of kind → Takes (event c n) b q
+rows event kind n b q text a c e = (a.0, subst (λ (d : ℕ). SpellsEvent (event d n) a.0) (sym e) (text a.0 a.1), a.2)
 
 pub list_opens : (levels : ℕ) (b : List ℕ) (kind : Kind) (c n : ℕ) (q : List ℕ) (x : Node) (rest : List ℕ) → IsRowOf list levels b kind n q x rest → c ≡ code_of kind
     → Behind levels (list_event c n) (f.Items kind n) b q x rest
 list_opens levels b kind c n q x rest h e =
     let xs = h.0 in
-    (events_in xs, ap events h.1 ∙ ap (λ (m : ℕ). list_event (code_of kind) m ∷ events_in xs) h.2 ∙ ap (λ (d : ℕ). list_event d n ∷ events_in xs) (sym e), one_less levels (f.Items kind n) (events_in xs) q rest (items_left levels kind n xs q rest h.3), h.4)
+    (events_in xs, ap events h.1 ∙ ap (λ (m : ℕ). list_event (code_of kind) m ∷ events_in xs) h.2 ∙ ap (λ (d : ℕ). list_event d n ∷ events_in xs) (sym e), one_less levels (f.Items kind n) (events_in xs) q rest (items_left levels kind n xs q rest h.3), rows list_event kind n b q (list_text kind n) h.4 c e)
 
 pub set_opens : (levels : ℕ) (b : List ℕ) (kind : Kind) (c n : ℕ) (q : List ℕ) (x : Node) (rest : List ℕ) → IsRowOf set levels b kind n q x rest → c ≡ code_of kind
     → Behind levels (set_event c n) (f.Items kind n) b q x rest
 set_opens levels b kind c n q x rest h e =
     let xs = h.0 in
-    (events_in xs, ap events h.1 ∙ ap (λ (m : ℕ). set_event (code_of kind) m ∷ events_in xs) h.2 ∙ ap (λ (d : ℕ). set_event d n ∷ events_in xs) (sym e), one_less levels (f.Items kind n) (events_in xs) q rest (items_left levels kind n xs q rest h.3), h.4)
+    (events_in xs, ap events h.1 ∙ ap (λ (m : ℕ). set_event (code_of kind) m ∷ events_in xs) h.2 ∙ ap (λ (d : ℕ). set_event d n ∷ events_in xs) (sym e), one_less levels (f.Items kind n) (events_in xs) q rest (items_left levels kind n xs q rest h.3), rows set_event kind n b q (set_text kind n) h.4 c e)
 
 -- a struct
 pub struct_opens : (levels : ℕ) (b : List ℕ) (x : Node) (rest : List ℕ) → and_then (all_fields levels (value levels)) (λ xs. pure (structure xs)) b ≡ Ok (x, rest) → Behind levels struct_event (f.Fields (pos 0)) b b x rest
@@ -109,11 +115,11 @@ struct_opens levels b x rest e = by (all_fields levels (value levels) b) refl e
     by : (o : Result (Fields × List ℕ) Stop) → all_fields levels (value levels) b ≡ o → (o >>= made_of structure) ≡ Ok (x, rest) → Behind levels struct_event (f.Fields (pos 0)) b b x rest
     by (Ok p) i j =
         let o = ok_is (structure p.0) x p.1 rest j in
-        (events_in_fields p.0, sym (ap events o.0), one_less levels (f.Fields (pos 0)) (events_in_fields p.0) b rest (fields_left levels (pos 0) (suc (length b)) p.0 b rest (i ∙ ap (λ (z : List ℕ). Ok (p.0, z)) o.1)), ([], refl))
+        (events_in_fields p.0, sym (ap events o.0), one_less levels (f.Fields (pos 0)) (events_in_fields p.0) b rest (fields_left levels (pos 0) (suc (length b)) p.0 b rest (i ∙ ap (λ (z : List ℕ). Ok (p.0, z)) o.1)), ([], struct_text [] refl, refl))
     by (Err d) i j = absurd cc
 
 -- a map
-module _ (levels : ℕ) (b : List ℕ) (x : Node) (rest : List ℕ) (is : mapping levels (value levels) b ≡ Ok (x, rest)) where
+module _ (levels : ℕ) (b : List ℕ) (x : Node) (rest : List ℕ) (bytes : AreBytes b) (is : mapping levels (value levels) b ≡ Ok (x, rest)) where
   map_ends : (d : Stop) → number 4 most_bytes b ≡ Err d → mapping levels (value levels) b ≡ Err d
   unfolding mapping
   map_ends d h = rw h refl
@@ -121,8 +127,8 @@ module _ (levels : ℕ) (b : List ℕ) (x : Node) (rest : List ℕ) (is : mappin
   pub map_first_err : (d : Stop) → number 4 most_bytes b ≡ Err d → ⊥
   map_first_err d h = no_read (mapping levels (value levels) b) (x, rest) d is (map_ends d h)
 
-  pub empty_map : (n : ℕ) (q : List ℕ) → number 4 most_bytes b ≡ Ok (n, q) → n ≡ 0 → (x ≡ map 0 0 no_pairs) × (q ≡ rest) × EndsWith b q
-  empty_map n q h z = let o = ok_is (map 0 0 no_pairs) x q rest (sym (mapping-none levels (value levels) b q n h z) ∙ is) in (sym o.0, o.1, number_ends 4 most_bytes b n q h)
+  pub empty_map : (n : ℕ) (q : List ℕ) → number 4 most_bytes b ≡ Ok (n, q) → n ≡ 0 → (x ≡ map 0 0 no_pairs) × (q ≡ rest) × Takes (map_event 0 0 0) b q
+  empty_map n q h z = let o = ok_is (map 0 0 no_pairs) x q rest (sym (mapping-none levels (value levels) b q n h z) ∙ is) in (sym o.0, o.1, no_map_takes b n q bytes h z)
 
   pub map_kinds_err : (n : ℕ) (q : List ℕ) (d : Stop) → number 4 most_bytes b ≡ Ok (n, q) → n ≢ 0 → one (map_header levels) q ≡ Err d → ⊥
   map_kinds_err n q d h some e = no_read (mapping levels (value levels) b) (x, rest) d is (mapping-some levels (value levels) b q n h some ∙ ends)
@@ -139,12 +145,16 @@ module _ (levels : ℕ) (b : List ℕ) (x : Node) (rest : List ℕ) (is : mappin
       by (Ok r) i j =
           let o = ok_is (map (code_of kinds.key) (code_of kinds.value) r.0) x r.1 rest j in
           let at = i ∙ ap (λ (z : List ℕ). Ok (r.0, z)) o.1 in
+          let takes : Takes (map_event c d n) b p =
+          subst (λ (k : ℕ). Takes (map_event c k n) b p) (sym de)
+          (subst (λ (k : ℕ). Takes (map_event k (code_of kinds.value) n) b p) (sym ce)
+          (map_takes levels b n q kinds p bytes h some e)) in
           let m = pairs_read (value levels kinds.key) (value levels kinds.value) n p r.0 rest at in (
             events_in_pairs r.0,
             sym (ap events o.0) ∙ ap (λ (k : ℕ). map_event (code_of kinds.key) (code_of kinds.value) k ∷ events_in_pairs r.0) m
                 ∙ ap (λ (k : ℕ). map_event k (code_of kinds.value) n ∷ events_in_pairs r.0) (sym ce) ∙ ap (λ (k : ℕ). map_event c k n ∷ events_in_pairs r.0) (sym de),
             one_less levels (f.Keys kinds.key kinds.value n) (events_in_pairs r.0) p rest (pairs_left levels kinds.key kinds.value n r.0 p rest at),
-            ends_on b q p (number_ends 4 most_bytes b n q h) (one_ends (map_header levels) q kinds p e),
+            takes,
           )
       by (Err s) i j = absurd cc
 
@@ -181,10 +191,10 @@ one_event k.Set b w rest e = absurd cc
 one_event k.Map b w rest e = absurd cc
 one_event k.Struct b w rest e = absurd cc
 
-pub scalar_opens : (kind : Kind) (b : List ℕ) (x : Node) (rest : List ℕ) (e : Event) (r : List ℕ) → scalar kind b ≡ Ok (x, rest) → seen first_event (scalar kind b) ≡ Ok (e, r) → (es : List Event) × (events x ≡ e ∷ es) × ((es ≡ []) × (r ≡ rest)) × EndsWith b r
-scalar_opens kind b x rest e r is h =
+pub scalar_opens : (kind : Kind) (b : List ℕ) (x : Node) (rest : List ℕ) (e : Event) (r : List ℕ) → AreBytes b → scalar kind b ≡ Ok (x, rest) → seen first_event (scalar kind b) ≡ Ok (e, r) → (es : List Event) × (events x ≡ e ∷ es) × ((es ≡ []) × (r ≡ rest)) × Takes e b r
+scalar_opens kind b x rest e r bytes is h =
     let o = ok_is (first_event x) e rest r (sym (ap (seen first_event) is) ∙ h) in
-    ([], one_event kind b x rest is ∙ ap (λ (z : Event). z ∷ []) o.0, (refl, sym o.1), subst (EndsWith b) o.1 (scalar_ends kind b x rest is))
+    ([], one_event kind b x rest is ∙ ap (λ (z : Event). z ∷ []) o.0, (refl, sym o.1), subst (λ (z : Event). Takes z b r) o.0 (subst (Takes (first_event x) b) o.1 (scalar_takes kind b x rest bytes is)))
 
 pub scalar_no : (kind : Kind) (b : List ℕ) (x : Node) (rest : List ℕ) (d : Stop) → scalar kind b ≡ Ok (x, rest) → seen first_event (scalar kind b) ≡ Err d → ⊥
 scalar_no kind b x rest d is h = let q : Ok (first_event x, rest) ≡ Err d = sym (ap (seen first_event) is) ∙ h in cc

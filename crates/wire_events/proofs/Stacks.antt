@@ -14,7 +14,7 @@ use Rattle.wire_events.specs.declared.frame.Frame.{Frame}
 use Rattle.wire_events.specs.declared.frame.Frame.TheVariants as f
 use Rattle.wire_events.specs.declared.stepping.Step.{Step}
 use Rattle.wire_events.specs.Events.{Event, events, events_in, events_in_pairs, events_in_fields, event_of}
-use Rattle.wire_events.specs.Frames.{IsLeft, items_left, pairs_left, value_left, fields_left, field_value_left, Inside, Come, is_done, settle, pushed, stack_of, EndsWith}
+use Rattle.wire_events.specs.Frames.{IsLeft, items_left, pairs_left, value_left, fields_left, field_value_left, Inside, Come, is_done, settle, pushed, stack_of}
 use Rattle.wire_events.specs.Steps.{Kept, IsStep}
 use Rattle.wire_events.proofs.Splits.{items_split, keys_split}
 
@@ -295,19 +295,27 @@ no_bytes a (g ∷ gs) es b end none h =
 
 -- ---- where the cursor stands
 
-pub next_within : (bytes b rest : List ℕ) → length b ≤ length bytes → EndsWith b rest → length rest ≤ length bytes
-next_within bytes b rest le (t, e) = omega (arith, ap length e, length-append t rest, le)
+pub next_within : (bytes b rest t : List ℕ) → length b ≤ length bytes → b ≡ t ++ rest → length rest ≤ length bytes
+next_within bytes b rest t le e = omega (arith, ap length e, length-append t rest, le)
 
 behind_front : (bytes s rest : List ℕ) → bytes ≡ s ++ rest → drop (length bytes - length rest) bytes ≡ rest
 behind_front bytes s rest e =
     let n : length bytes - length rest ≡ length s = omega (arith, ap length e, length-append s rest) in
     ap (λ (k : ℕ). drop k bytes) n ∙ ap (drop (length s)) e ∙ drop-append_seam s rest
 
-pub next_at_end : (bytes b rest : List ℕ) → drop (length bytes - length b) bytes ≡ b → EndsWith b rest → drop (length bytes - length rest) bytes ≡ rest
-next_at_end bytes b rest at (t, e) =
+pub next_at_end : (bytes b rest t : List ℕ) → drop (length bytes - length b) bytes ≡ b → b ≡ t ++ rest → drop (length bytes - length rest) bytes ≡ rest
+next_at_end bytes b rest t at e =
     let n : ℕ = length bytes - length b in
     let parts : bytes ≡ (take n bytes ++ t) ++ rest = sym (take-append-drop n bytes) ∙ ap (λ (z : List ℕ). take n bytes ++ z) (at ∙ e) ∙ sym (append_assoc (take n bytes) t rest) in
     behind_front bytes (take n bytes ++ t) rest parts
+
+-- the place goes on by the event's bytes
+pub next_place : (bytes b rest t : List ℕ) → length b ≤ length bytes → b ≡ t ++ rest → length bytes - length rest ≡ (length bytes - length b) + length t
+next_place bytes b rest t le e = omega (arith, ap length e, length-append t rest, le)
+
+-- where no event is left, neither is a byte
+pub place_at_end : (fs : List Frame) (depth : ℕ) (es : List Event) (bytes b : List ℕ) → es ≡ [] → Come 0 (stack_of fs depth) es b [] → length bytes - length b ≡ length bytes
+place_at_end fs depth es bytes b none h = let e : length b ≡ 0 = ap length (no_bytes 0 (stack_of fs depth) es b [] none h) in omega (arith, e)
 
 pub equal_lists : (xs ys : List ℕ) → IsProp (xs ≡ ys)
 equal_lists xs ys = hlevel props

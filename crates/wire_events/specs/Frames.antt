@@ -9,6 +9,7 @@ use Rattle.wire_events.specs.Events.{Event, events, events_in, events_in_pairs, 
 use Rattle.wire_events.specs.declared.frame.Frame.{Frame}
 use Rattle.wire_events.specs.declared.frame.Frame.TheVariants as f
 use Rattle.wire_events.specs.declared.frame.WireEvent.{WireEvent}
+use Rattle.wire_events.specs.Texts.{Takes}
 use denote.Ref.{Bor}
 
 -- from the bytes b on what is left of a container is read, whose parts may open l levels; these are its events, and
@@ -37,18 +38,14 @@ Come around (g ∷ gs) es b end =
     (ins : List Event) × (outs : List Event) × (mid : List ℕ) × (es ≡ ins ++ outs)
     × IsLeft (64 - (around + length gs)) g ins b mid × Come around gs outs mid end
 
--- all of the bytes but those at their front
-abbrev pub EndsWith : List ℕ → List ℕ → Type 0
-EndsWith b rest = (t : List ℕ) × (b ≡ t ++ rest)
-
 -- behind the first event of a value at that many levels
 abbrev pub Inside : ℕ → Option Frame → List Event → List ℕ → List ℕ → Type 0
 Inside l None es b rest = (es ≡ []) × (b ≡ rest)
 Inside l (Some g) es b rest = (0 < l) × IsLeft (l - 1) g es b rest
 
--- the first event of the value that the bytes b begin with, what it opens, and the bytes behind that event
+-- the first event of the value that the bytes b begin with and its own bytes, what it opens, and the bytes behind that event
 abbrev pub Opens : ℕ → Node → List ℕ → List ℕ → Result (WireEvent × Option Frame × Bor (List ℕ)) Stop → Type 0
-Opens l x b rest (Ok r) = (es : List Event) × (events x ≡ event_of r.0 ∷ es) × Inside l r.1 es r.2.now rest × EndsWith b r.2.now
+Opens l x b rest (Ok r) = (es : List Event) × (events x ≡ event_of r.0 ∷ es) × Inside l r.1 es r.2.now rest × Takes (event_of r.0) b r.2.now
 Opens l x b rest (Err e) = ⊥
 
 -- nothing is left of a container; fields have their end to give

@@ -1,4 +1,5 @@
 pub mod Events
 pub mod Frames
+pub mod Texts
 pub mod Steps
 pub mod Cursor

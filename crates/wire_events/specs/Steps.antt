@@ -4,7 +4,8 @@ use Rattle.exact_reading.specs.declared.stop.Stop.{Stop}
 use Rattle.compact_wire.specs.Node.{Fields, structure}
 use Rattle.compact_wire.specs.Spells.{SpellsWire}
 use Rattle.wire_events.specs.Events.{Event, event_of, struct_event, events_in_fields}
-use Rattle.wire_events.specs.Frames.{IsLeft, Inside, EndsWith}
+use Rattle.wire_events.specs.Frames.{IsLeft, Inside}
+use Rattle.wire_events.specs.Texts.{Takes}
 use Rattle.wire_events.specs.declared.frame.Frame.{Frame}
 use Rattle.wire_events.specs.declared.stepping.Step.{Step}
 
@@ -21,7 +22,8 @@ pub record BeginsStruct (b : List ℕ) (es : List Event) (rest : List ℕ) : Typ
   pub parts : b ≡ text ++ rest
   pub behind : es ≡ events_in_fields fields
 
--- the first of the events, those of the container that it opens, and those that are left of the container that gave it
+-- the first of the events and the bytes that it takes, the events of the container that it opens, and those that are
+-- left of the container that gave it
 pub record IsStep (l : ℕ) (es : List Event) (b end : List ℕ) (s : Step) : Type 0 where
   pub ins : List Event
   pub outs : List Event
@@ -29,7 +31,7 @@ pub record IsStep (l : ℕ) (es : List Event) (b end : List ℕ) (s : Step) : Ty
   pub parts : es ≡ event_of s.event ∷ (ins ++ outs)
   pub opened : Inside l s.opened ins s.rest.now mid
   pub kept : Kept l s.opened s.keep outs mid end
-  pub ended : EndsWith b s.rest.now
+  pub takes : Takes (event_of s.event) b s.rest.now
   pub begins : l ≤ 64 → event_of s.event ≡ struct_event → BeginsStruct b ins mid
 
 abbrev pub Steps : ℕ → List Event → List ℕ → List ℕ → Result Step Stop → Type 0

@@ -25,7 +25,7 @@ pub struct WireEvents<'a> {
 }
 
 impl<'a> WireEvents<'a> {
-    ghost use Rattle.wire_events.specs.Cursor.{AreLeft, IsNext, ComeNext, OpensStruct, bytes_of, place_of, IsSpelled};
+    ghost use Rattle.wire_events.specs.Cursor.{AreLeft, IsNext, Moves, ComeNext, OpensStruct, bytes_of, place_of, IsSpelled};
 
     /// The events of the struct that the bytes spell, all of them.
     pub fn new(bytes: &'a [u8]) -> WireEvents<'a>
@@ -45,6 +45,9 @@ impl<'a> WireEvents<'a> {
     /// The next event, and none exactly after the last.
     pub fn next(&mut self) -> Option<WireEvent<'a>>
         ensures left { (es : List Event) → AreLeft self.old es → IsNext result es (AreLeft self.new) }
+        // From the place before the event to the one behind it the bytes spell it. Behind the last the place is the end of
+        // the bytes.
+        ensures moves { (es : List Event) → AreLeft self.old es → Moves result self.old self.new }
         // The same of the events up to some place.
         ensures front { (e : Event) (es : List Event) (end : List ℕ) → ComeNext self.old (e ∷ es) end
             → IsNext result (e ∷ es) (λ ds. ComeNext self.new ds end) }

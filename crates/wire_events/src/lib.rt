@@ -9,6 +9,3 @@ mod stepping;
 
 pub use cursor::WireEvents;
 pub use frame::WireEvent;
-
-#[cfg(test)]
-mod tests;

@@ -6,6 +6,3 @@ mod skipping;
 
 pub use scanning::scan_wire;
 pub use skipping::{skip_items, skip_pairs, skip_scalar, skip_typed, skip_value};
-
-#[cfg(test)]
-mod tests;

@@ -16,7 +16,6 @@ use Rattle.compact_wire.specs.Reads.{items, pairs, value, all_fields, typed, con
 use Rattle.compact_wire.proofs.ReadSteps.{AreBytes-from, value-zero, value-step, value-scalar}
 use Rattle.idl_profile.specs.Types.{TypeTree, DefField}
 use Rattle.idl_parse.specs.Refs.{type_of_ref, field_of_ref, fields_of_refs, element_of, key_of, value_of}
-use Rattle.key_order.specs.Entries.{placed}
 use Rattle.key_order.specs.Keys.{value_of as value_of_key}
 use Rattle.type_kinds.specs.Accepted.{IsAccepted}
 use Rattle.type_kinds.specs.Laws.{Any}
@@ -36,7 +35,8 @@ use Rattle.typed_reading.proofs.Rows.{row_header_err, row_count_err, list_fine, 
 use Rattle.typed_reading.proofs.Maps.{map_first, map_none, map_header_err, map_wrong, map_wrong_err, map_fine}
 use Rattle.typed_reading.proofs.Structs.{field_ok, unknown_ok, repeated_ok, known_is, struct_err, struct_ok}
 use Rattle.typed_reading.proofs.Tables.{key_ok, key_err, value_ok, goes_on, on_ok, map_done, map_err}
-use Rattle.typed_reading.proofs.Keyed.{climbs_one, placed_push}
+use Rattle.typed_reading.proofs.Keyed.{climbs_one}
+use Rattle.typed_reading.proofs.Kept.{none_kept, kept_climbs, kept_least}
 use Rattle.typed_reading.proofs.Parts.{struct_code, leaf_kind, key_is_leaf, key_kind, element_accepted, map_accepted, fields_typed}
 use Rattle.typed_reading.proofs.Fails.{items_fail, pair_fails, field_fails}
 use Rattle.typed_reading.proofs.checking.+check.Goals as goal
@@ -262,18 +262,18 @@ check_pairs-returns-in_err-first-clause-reads t c =
     let a = value c.args.levels c.args.kinds.key in
     let b = value c.args.levels c.args.kinds.value in
     let d = c.in_err-first.field-0.0 in
-    let e = key_err k c.loop.progress (placed c.loop.keys.items) c.args.levels c.args.kinds.key c.loop.rest.now (key_is_leaf c.args.kinds.key c.requires.kind) d c.in_err-first.ensures.reads in
+    let e = key_err k c.loop.progress c.loop.invariant.0 c.args.levels c.args.kinds.key c.loop.rest.now (key_is_leaf c.args.kinds.key c.requires.kind) d c.in_err-first.ensures.reads in
     rw (p.1, p.2) (map_err k v c.args.progress.now (pairs a b c.args.count c.args.bytes.now) d
-    (key_end (after_key k) (after_value v) (after_pairs k v) (no_more_pairs k v) (one_more_pair k v) a b (c.loop.progress, placed c.loop.keys.items) d c.args.count c.loop.counter c.loop.rest.now
-    (seen (after_pairs k v (c.args.progress.now, [])) (pairs a b c.args.count c.args.bytes.now)) c.loop-test.true e c.loop.invariant.0))
+    (key_end (after_key k) (after_value v) (after_pairs k v) (no_more_pairs k v) (one_more_pair k v) a b (c.loop.progress, c.loop.invariant.0) d c.args.count c.loop.counter c.loop.rest.now
+    (seen (after_pairs k v (c.args.progress.now, [])) (pairs a b c.args.count c.args.bytes.now)) c.loop-test.true e c.loop.invariant.1))
 
 pub check_pairs-returns-in_err-behind-clause-reads : goal.check_pairs-returns-in_err-behind-clause-reads
 check_pairs-returns-in_err-behind-clause-reads t c =
     let p = err_from_is_err_and c.from_residual-in_err-behind.result c.from_residual-in_err-behind.ensures.1 in
     let k = type_of_ref c.args.key_type in
     let first = c.in_ok-first.first in
-    let e = key_ok k c.loop.progress (placed c.loop.keys.items) c.args.levels c.args.kinds.key c.loop.rest.now (key_is_leaf c.args.kinds.key c.requires.kind) c.check_key.new.progress first.place (value_of_key first.key) c.in_ok-first.middle.now c.in_ok-first.ensures.reads in
-    rw (p.1, p.2) (pair_fails k (type_of_ref c.args.value_type) c.args.levels c.args.kinds.key c.args.kinds.value c.in_err-behind.field-0.0 c.args.progress.now c.loop.progress c.check_key.new.progress (placed c.loop.keys.items) _ c.args.count c.loop.counter c.args.bytes.now c.loop.rest.now c.in_ok-first.middle.now c.loop-test.true e c.in_err-behind.ensures.reads c.loop.invariant.0)
+    let e = key_ok k c.loop.progress c.loop.invariant.0 c.args.levels c.args.kinds.key c.loop.rest.now (key_is_leaf c.args.kinds.key c.requires.kind) c.check_key.new.progress first.place (value_of_key first.key) c.in_ok-first.middle.now c.in_ok-first.ensures.reads in
+    rw (p.1, p.2) (pair_fails k (type_of_ref c.args.value_type) c.args.levels c.args.kinds.key c.args.kinds.value c.in_err-behind.field-0.0 c.args.progress.now c.loop.progress c.check_key.new.progress c.loop.invariant.0 _ c.args.count c.loop.counter c.args.bytes.now c.loop.rest.now c.in_ok-first.middle.now c.loop-test.true e c.in_err-behind.ensures.reads c.loop.invariant.1)
 
 pub check_pairs-loop-preserved : goal.check_pairs-loop-preserved
 check_pairs-loop-preserved t c =
@@ -282,24 +282,25 @@ check_pairs-loop-preserved t c =
     let a = value c.args.levels c.args.kinds.key in
     let b = value c.args.levels c.args.kinds.value in
     let first = c.in_ok-first.first in
-    let ks = placed c.loop.keys.items in
+    let ks = c.loop.invariant.0 in
     let more = ks ++ (first.place, value_of_key first.key) ∷ [] in
     let e = key_ok k c.loop.progress ks c.args.levels c.args.kinds.key c.loop.rest.now (key_is_leaf c.args.kinds.key c.requires.kind) c.check_key.new.progress first.place (value_of_key first.key) c.in_ok-first.middle.now c.in_ok-first.ensures.reads in
     let f = value_ok v c.check_key.new.progress more (b c.in_ok-first.middle.now) c.check_value.new.progress c.in_ok-behind.behind.now c.in_ok-behind.ensures.reads in
     let g = pairs_go_on (after_key k) (after_value v) (after_pairs k v) (no_more_pairs k v) (one_more_pair k v) a b (c.loop.progress, ks) (c.check_key.new.progress, more) (c.check_value.new.progress, more) c.args.count c.loop.counter c.loop.rest.now c.in_ok-first.middle.now c.in_ok-behind.behind.now
-    (seen (after_pairs k v (c.args.progress.now, [])) (pairs a b c.args.count c.args.bytes.now)) c.loop-test.true e f c.loop.invariant.0 in
-    let pushed = ap placed c.in_ok-push.ensures.items ∙ placed_push c.loop.keys.items first in
+    (seen (after_pairs k v (c.args.progress.now, [])) (pairs a b c.args.count c.args.bytes.now)) c.loop-test.true e f c.loop.invariant.1 in
     let up = goes_on v c.check_key.new.progress more (b c.in_ok-first.middle.now) c.check_value.new.progress c.in_ok-behind.behind.now c.in_ok-behind.ensures.reads in (
-      rw pushed g,
-      omega (arith, c.in_ok-first.ensures.room, c.in_ok-behind.ensures.room, c.loop.invariant.1),
-      c.in_ok-behind.ensures.marks ∙ c.loop.invariant.2,
-      rw (pushed, c.in_ok-first.ensures.place) (climbs_one 0 c.loop.progress.next c.check_value.new.progress.next ks (value_of_key first.key) c.loop.invariant.3 (omega (arith, c.in_ok-first.ensures.next, up))),
+      more,
+      g,
+      omega (arith, c.in_ok-first.ensures.room, c.in_ok-behind.ensures.room, c.loop.invariant.2),
+      c.in_ok-behind.ensures.marks ∙ c.loop.invariant.3,
+      rw c.in_ok-first.ensures.place (climbs_one 0 c.loop.progress.next c.check_value.new.progress.next ks (value_of_key first.key) c.loop.invariant.4 (omega (arith, c.in_ok-first.ensures.next, up))),
+      c.in_ok-keep_key.ensures.kept ks c.loop.invariant.5,
       λ clean.
           let middle = clean_value v c.check_key.new.progress c.check_value.new.progress (b c.in_ok-first.middle.now) c.in_ok-behind.behind.now c.in_ok-behind.ensures.reads clean in
           let before = clean_key k c.loop.progress c.check_key.new.progress (first.place, value_of_key first.key) _ c.in_ok-first.middle.now c.in_ok-first.ensures.reads middle in
           let item = key_item k c.loop.sums c.with_item.result c.check_key.new.sums c.args.levels c.args.kinds.key c.loop.rest.now c.in_ok-first.middle.now (key_is_leaf c.args.kinds.key c.requires.kind) c.with_item.ensures c.in_ok-first.ensures.counts in
           pairs_go_on (counted_item k) (counted v) (counted_pairs k v) (no_pair_counted k v) (pair_counted k v) a b c.loop.sums c.check_key.new.sums c.check_value.new.sums c.args.count c.loop.counter c.loop.rest.now c.in_ok-first.middle.now c.in_ok-behind.behind.now
-          (seen (counted_pairs k v c.args.sums.now) (pairs a b c.args.count c.args.bytes.now)) c.loop-test.true item (c.in_ok-behind.ensures.counts clean) (c.loop.invariant.4 before),
+          (seen (counted_pairs k v c.args.sums.now) (pairs a b c.args.count c.args.bytes.now)) c.loop-test.true item (c.in_ok-behind.ensures.counts clean) (c.loop.invariant.6 before),
     )
 
 pub check_pairs-returns-clause-reads : goal.check_pairs-returns-clause-reads
@@ -308,9 +309,10 @@ check_pairs-returns-clause-reads t c =
     let v = type_of_ref c.args.value_type in
     let a = value c.args.levels c.args.kinds.key in
     let b = value c.args.levels c.args.kinds.value in
-    let done = pairs_done (after_key k) (after_value v) (after_pairs k v) (no_more_pairs k v) (one_more_pair k v) a b (c.loop.progress, placed c.loop.keys.items) c.args.count c.loop.counter c.loop.rest.now
-    (seen (after_pairs k v (c.args.progress.now, [])) (pairs a b c.args.count c.args.bytes.now)) c.loop-test.false c.loop.invariant.0 in
-    rw (c.note_repeat.ensures, c.as_mut_slice.ensures.value) (map_done k v c.args.progress.now (pairs a b c.args.count c.args.bytes.now) c.loop.progress (placed c.loop.keys.items) c.loop.rest.now done)
+    let done = pairs_done (after_key k) (after_value v) (after_pairs k v) (no_more_pairs k v) (one_more_pair k v) a b (c.loop.progress, c.loop.invariant.0) c.args.count c.loop.counter c.loop.rest.now
+    (seen (after_pairs k v (c.args.progress.now, [])) (pairs a b c.args.count c.args.bytes.now)) c.loop-test.false c.loop.invariant.1 in
+    let least = kept_least c.args.kinds.key c.loop.invariant.0 c.loop.keys.items c.loop.progress.next c.loop.invariant.5 c.loop.invariant.4 in
+    rw (c.note_repeat.ensures, c.as_mut_slice.ensures.value, least) (map_done k v c.args.progress.now (pairs a b c.args.count c.args.bytes.now) c.loop.progress c.loop.invariant.0 c.loop.rest.now done)
 
 pub check_struct-fields-init : goal.check_struct-fields-init
 check_struct-fields-init t c =
@@ -509,7 +511,7 @@ check_pairs-returns-clause-counts t c clean =
     let b = value c.args.levels c.args.kinds.value in
     let before = none_left c.loop.progress.found _ (sym (ap (λ (p : Progress). p.found) c.note_repeat.ensures) ∙ clean) in
     pairs_done (counted_item k) (counted v) (counted_pairs k v) (no_pair_counted k v) (pair_counted k v) a b c.loop.sums c.args.count c.loop.counter c.loop.rest.now
-    (seen (counted_pairs k v c.args.sums.now) (pairs a b c.args.count c.args.bytes.now)) c.loop-test.false (c.loop.invariant.4 before)
+    (seen (counted_pairs k v c.args.sums.now) (pairs a b c.args.count c.args.bytes.now)) c.loop-test.false (c.loop.invariant.6 before)
 
 pub check_struct-returns-in_default-clause-counts : goal.check_struct-returns-in_default-clause-counts
 check_struct-returns-in_default-clause-counts t c clean =
@@ -522,3 +524,12 @@ check_struct-returns-in_default-clause-counts t c clean =
     (c.in_ok-start.ensures.reads ∙ ap (λ o. Ok (o, c.in_ok-start.behind.now)) c.in_default.is) in
     rw (c.with_defaults.ensures i.0 m i.4 ∙ ap (λ (gs : List DefField). grown c.fields.sums (defaults_beside gs i.0)) c.fields-fields.ensures) (struct_counted (type_of_ref c.args.ty) c.args.sums.now c.args.levels (all_fields c.args.levels (value c.args.levels) c.args.bytes.now) c.fields.sums i.0 c.in_ok-start.behind.now (struct_code (type_of_ref c.args.ty) c.requires.is_struct)
     (subst (λ (gs : List DefField). seen (counted_fields gs (grown c.args.sums.now a_struct, [])) (all_fields c.args.levels (value c.args.levels) c.args.bytes.now) ≡ Ok ((c.fields.sums, i.0), c.in_ok-start.behind.now)) c.fields-fields.ensures e))
+
+pub check_pairs-loop-init : goal.check_pairs-loop-init
+check_pairs-loop-init t c =
+    let all : c.args.count - 0 ≡ c.args.count = omega arith in
+    ([], rw all refl, omega arith, refl, omega arith, rw c.new-keys.ensures.items (none_kept c.args.kinds.key), λ clean. rw all refl)
+
+pub check_pairs-note_repeat-requires : goal.check_pairs-note_repeat-requires
+check_pairs-note_repeat-requires t c =
+    rw c.as_mut_slice.ensures.value (kept_climbs c.args.kinds.key c.loop.invariant.0 c.loop.keys.items c.loop.progress.next c.loop.invariant.5 c.loop.invariant.4)

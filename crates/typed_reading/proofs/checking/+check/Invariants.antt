@@ -1,12 +1,13 @@
-use Rattle.std.proofs.Common.{None, ◌≡◌, ◌+◌, ◌-◌, ◌*◌, ◌≤◌, length, List, [], take, drop}
+use Rattle.std.proofs.Common.{None, ◌≡◌, ℕ, ◌+◌, ◌-◌, ◌*◌, ◌≤◌, length, List, [], take, drop}
 use Rattle.std.specs.Prelude.{ℤ}
 use Rattle.compact_wire.specs.Reads.{items, pairs, value, all_fields}
 use Rattle.idl_parse.specs.Refs.{type_of_ref, fields_of_refs}
 use Rattle.exact_reading.specs.Reading.{seen}
-use Rattle.key_order.specs.Entries.{placed}
+use Rattle.frozen_model.specs.Values.{Value}
 use Rattle.wire_scan.proofs.Seen.{Reading}
 use Rattle.typed_reading.specs.Counts.{counted_items, counted_pairs, counted_field, counted_fields}
 use Rattle.typed_reading.specs.Progress.{after_items, after_pairs, after_field, after_fields}
+use Rattle.typed_reading.specs.Kept.{AreKept}
 use Rattle.typed_reading.specs.Marks.{Marked, HaveStood, Climbs}
 use Rattle.typed_reading.proofs.CountSteps.{no_field_counted, field_counted}
 use Rattle.typed_reading.proofs.Steps.{no_more_fields, one_more_field}
@@ -47,13 +48,15 @@ invariant-check_items-loop l =
 
 abbrev pub invariant-check_pairs-loop : goal.invariant-check_pairs-loop
 invariant-check_pairs-loop l =
-    (seen (after_pairs (type_of_ref l.key_type) (type_of_ref l.value_type) (l.progress, placed l.keys.items))
+    (ks : List (ℕ × Value))
+    × (seen (after_pairs (type_of_ref l.key_type) (type_of_ref l.value_type) (l.progress, ks))
     (pairs (value l.levels l.kinds.key) (value l.levels l.kinds.value) (l.count - l.counter) l.rest)
     ≡ seen (after_pairs (type_of_ref l.key_type) (type_of_ref l.value_type) (l.initial.progress, []))
     (pairs (value l.levels l.kinds.key) (value l.levels l.kinds.value) l.count l.bytes))
     × (l.progress.next + length l.rest ≤ l.initial.progress.next + length l.bytes)
     × (l.marks.items ≡ l.initial.marks.items)
-    × Climbs 0 l.progress.next (placed l.keys.items)
+    × Climbs 0 l.progress.next ks
+    × AreKept l.kinds.key ks l.keys.items
     × (l.progress.found ≡ None → seen (counted_pairs (type_of_ref l.key_type) (type_of_ref l.value_type) l.sums)
     (pairs (value l.levels l.kinds.key) (value l.levels l.kinds.value) (l.count - l.counter) l.rest)
     ≡ seen (counted_pairs (type_of_ref l.key_type) (type_of_ref l.value_type) l.initial.sums)

@@ -1,3 +1,5 @@
+use Rattle.std.proofs.Common.{arith}
+use Rattle.compact_wire.proofs.ReadSteps.{AreBytes-from}
 use Rattle.compact_wire.specs.Node.{set}
 use Rattle.compact_wire.specs.Reads.{sequence, value}
 use Rattle.wire_events.proofs.Openings.{no_read, row_header_err, row_count_err, row_open, set_opens}
@@ -15,5 +17,5 @@ returns-in_err-len c x rest is =
 pub returns : goal.returns
 returns c x rest is =
     set_opens c.args.levels c.args.bytes.now c.element_of-kind.result c.code_of-code.result c.in_ok-len.len c.in_ok-len.rest.now x rest
-    (row_open set c.args.levels c.args.bytes.now c.in_ok-header.header c.element_of-kind.result c.in_ok-header.rest.now c.in_ok-len.rest.now c.in_ok-len.len x rest c.in_ok-header.ensures.reads c.in_ok-len.ensures.reads c.element_of-kind.ensures is)
+    (row_open set c.args.levels c.args.bytes.now c.in_ok-header.header c.element_of-kind.result c.in_ok-header.rest.now c.in_ok-len.rest.now c.in_ok-len.len x rest (AreBytes-from c.args.bytes.now (λ i. omega (arith, c.type_inv.bytes i))) c.in_ok-header.ensures.reads c.in_ok-len.ensures.reads c.element_of-kind.ensures is)
     c.code_of-code.ensures

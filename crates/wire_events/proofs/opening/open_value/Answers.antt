@@ -2,11 +2,12 @@ use Rattle.std.proofs.Common.{◌≡◌, ◌-◌, ◌<◌, suc, ℕ, List, sym, 
 use Rattle.compact_wire.specs.Bytes.{ByteReader}
 use Rattle.compact_wire.specs.Node.{Node}
 use Rattle.compact_wire.specs.Reads.{value, container}
-use Rattle.compact_wire.proofs.ReadSteps.{value-zero, value-step, value-scalar, is_scalar}
+use Rattle.compact_wire.proofs.ReadSteps.{AreBytes-from, value-zero, value-step, value-scalar, is_scalar}
 use Rattle.std.specs.Prelude.{pos, ◌∷◌}
 use Rattle.wire_events.specs.declared.frame.Frame.TheVariants as f
 use Rattle.wire_events.specs.Events.{Event, events, struct_event, event_of}
-use Rattle.wire_events.specs.Frames.{Opens, IsLeft, EndsWith}
+use Rattle.wire_events.specs.Frames.{Opens, IsLeft}
+use Rattle.wire_events.specs.Texts.{Takes}
 use Rattle.wire_events.proofs.Openings.{scalar_opens, scalar_no, struct_opens}
 use Rattle.wire_events.proofs.opening.open_value.Goals as goal
 
@@ -18,7 +19,7 @@ returns-in_err-event c x rest is =
 pub returns-then-levels-eq0 : goal.returns-then-levels-eq0
 returns-then-levels-eq0 c x rest is =
     let z = sym (ap (λ (r : ByteReader Node). r c.args.bytes.now) (value-zero c.args.levels c.args.kind (omega arith))) ∙ is in
-    scalar_opens c.args.kind c.args.bytes.now x rest (event_of c.in_ok-event.event) c.in_ok-event.rest.now z c.in_ok-event.ensures
+    scalar_opens c.args.kind c.args.bytes.now x rest (event_of c.in_ok-event.event) c.in_ok-event.rest.now (AreBytes-from c.args.bytes.now (λ i. omega (arith, c.type_inv.bytes i))) z c.in_ok-event.ensures
 
 pub returns-in_err-event-in-Flag : goal.returns-in_err-event-in-Flag
 returns-in_err-event-in-Flag c x rest is =
@@ -28,7 +29,7 @@ returns-in_err-event-in-Flag c x rest is =
 pub returns-in_ok-event-in-Flag : goal.returns-in_ok-event-in-Flag
 returns-in_ok-event-in-Flag c x rest is =
     let z = sym (ap (λ (r : ByteReader Node). r c.args.bytes.now) (value-scalar c.args.levels c.args.kind (is_scalar c.args.kind c.in-Flag.is))) ∙ is in
-    scalar_opens c.args.kind c.args.bytes.now x rest (event_of c.in_ok-event-in-Flag.event) c.in_ok-event-in-Flag.rest.now z c.in_ok-event-in-Flag.ensures
+    scalar_opens c.args.kind c.args.bytes.now x rest (event_of c.in_ok-event-in-Flag.event) c.in_ok-event-in-Flag.rest.now (AreBytes-from c.args.bytes.now (λ i. omega (arith, c.type_inv.bytes i))) z c.in_ok-event-in-Flag.ensures
 
 pub returns-in-List : goal.returns-in-List
 returns-in-List c x rest is =
@@ -52,4 +53,4 @@ pub returns-in-Struct : goal.returns-in-Struct
 returns-in-Struct c x rest is =
     let l : suc (c.args.levels - 1) ≡ c.args.levels = omega arith in
     let z = sym (ap (λ (r : ByteReader Node). r c.args.bytes.now) (value-step c.args.levels c.args.kind (omega arith) ∙ ap (container (c.args.levels - 1) (value (c.args.levels - 1))) c.in-Struct.is)) ∙ is in
-    subst (λ (n : ℕ). (es : List Event) × (events x ≡ struct_event ∷ es) × ((0 < n) × IsLeft (n - 1) (f.Fields (pos 0)) es c.args.bytes.now rest) × EndsWith c.args.bytes.now c.args.bytes.now) l (struct_opens (c.args.levels - 1) c.args.bytes.now x rest z)
+    subst (λ (n : ℕ). (es : List Event) × (events x ≡ struct_event ∷ es) × ((0 < n) × IsLeft (n - 1) (f.Fields (pos 0)) es c.args.bytes.now rest) × Takes struct_event c.args.bytes.now c.args.bytes.now) l (struct_opens (c.args.levels - 1) c.args.bytes.now x rest z)

@@ -5,6 +5,7 @@ use mir.Syntax.{w16}
 use Rattle.compact_wire.specs.declared.header.FieldType.{FieldType}
 use Rattle.wire_events.specs.declared.frame.Frame.TheVariants as f
 use Rattle.wire_events.specs.Frames.{IsLeft}
+use Rattle.wire_events.specs.Texts.{told_text}
 use Rattle.wire_events.proofs.Splits.{field_split, flag_split}
 use Rattle.wire_events.proofs.stepping.typed_step.Goals as goal
 
@@ -21,4 +22,4 @@ returns-in-Given c es end h =
     let n : SFits w16 c.args.id = search rules in
     let i = subst (λ (z : FieldType). IsLeft c.args.levels (f.FieldValue c.args.id z) es c.args.bytes.now end) c.in-Given.is h in
     let s = flag_split c.args.levels c.args.id c.in-Given.x es c.args.bytes.now end i in
-    simp to_z-of_z (record { ins = []; outs = s.0; mid = c.args.bytes.now; parts = s.1; opened = (refl, refl); kept = s.2; ended = ([], refl); begins = λ le q. absurd cc })
+    simp to_z-of_z (record { ins = []; outs = s.0; mid = c.args.bytes.now; parts = s.1; opened = (refl, refl); kept = s.2; takes = ([], told_text c.in-Given.x [] refl, refl); begins = λ le q. absurd cc })

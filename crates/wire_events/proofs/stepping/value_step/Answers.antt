@@ -14,6 +14,6 @@ returns c x es outs mid end reads parts left =
       parts = parts ∙ ap (λ (z : List Event). z ++ outs) o.1;
       opened = o.2;
       kept = left;
-      ended = o.3;
+      takes = o.3;
       begins = λ le q. struct_begins c.args.levels c.args.kind c.args.bytes.now x mid o.0 le (AreBytes-from c.args.bytes.now (λ i. omega (arith, c.type_inv.bytes i))) reads (o.1 ∙ ap (λ (z : Event). z ∷ o.0) q);
     }

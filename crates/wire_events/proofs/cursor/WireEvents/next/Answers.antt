@@ -1,4 +1,4 @@
-use Rattle.std.proofs.Common.{◌≡◌, ◌<◌, ◌-◌, List, [], ◌∷◌, length, arith, rules, sym, ap, subst, ◌∙◌}
+use Rattle.std.proofs.Common.{◌≡◌, ℕ, ◌<◌, ◌-◌, List, [], ◌∷◌, ◌++◌, length, refl, arith, rules, sym, ap, subst, ◌∙◌}
 use Rattle.std.proofs.Math.Logic.{∥∥₁_elim, ∥∥₁_map}
 use Rattle.std.proofs.Math.Bridge.{le_prop}
 use Rattle.compact_wire.specs.declared.kind.Kind.TheVariants as k
@@ -7,11 +7,18 @@ use Rattle.wire_events.specs.declared.frame.Frame.TheVariants as f
 use Rattle.wire_events.specs.declared.frame.WireEvent.TheVariants as w
 use Rattle.wire_events.specs.Events.{Event, event_of}
 use Rattle.wire_events.specs.Frames.{Come, stack_of, pushed, GoesOn}
-use Rattle.wire_events.proofs.Stacks.{none_in_front, front_steps, opened_front, length-stack, none_left, top_goes_on, top_left, top_steps, step_level, next_within, next_at_end, equal_lists, nothing_is}
+use Rattle.wire_events.proofs.Stacks.{none_in_front, front_steps, opened_front, length-stack, none_left, top_goes_on, top_left, top_steps, step_level, next_within, next_at_end, next_place, place_at_end, equal_lists, nothing_is}
 use Rattle.wire_events.proofs.cursor.WireEvents.next.Goals as goal
 
 pub returns-then-depth-eq0-clause-left : goal.returns-then-depth-eq0-clause-left
-returns-then-depth-eq0-clause-left c es h = none_left c.args.self.now.frames c.args.self.now.depth c.settled-depth.result es c.args.self.now.rest.now c.settled-depth.ensures.stack c.if-depth-eq0.true h
+returns-then-depth-eq0-clause-left c es h =
+    let none = none_left c.args.self.now.frames c.args.self.now.depth c.settled-depth.result es c.args.self.now.rest.now c.settled-depth.ensures.stack c.if-depth-eq0.true h in
+    (none, subst (λ (z : List Event). Come 0 (stack_of c.args.self.now.frames c.args.self.now.depth) z c.args.self.now.rest.now []) none h)
+
+pub returns-then-depth-eq0-clause-moves : goal.returns-then-depth-eq0-clause-moves
+returns-then-depth-eq0-clause-moves c es h =
+    let none = none_left c.args.self.now.frames c.args.self.now.depth c.settled-depth.result es c.args.self.now.rest.now c.settled-depth.ensures.stack c.if-depth-eq0.true h in
+    (refl, place_at_end c.args.self.now.frames c.args.self.now.depth es c.args.self.now.bytes.now c.args.self.now.rest.now none h)
 
 pub unreachable-requires : goal.unreachable-requires
 unreachable-requires c =
@@ -46,7 +53,7 @@ invariant_of-self-2-clause-within c =
     ∥∥₁_elim c.args.self.now.goes_on le_prop (λ (i : GoesOn c.args.self.now.frames c.args.self.now.depth c.args.self.now.rest.now).
     let t = top_left c.args.self.now.frames c.args.self.now.depth c.settled-depth.result (f.Items k.Flag 0) c.args.self.now.rest.now c.settled-depth.ensures.stack c.if-depth-eq0.false lt i.0 i.1 in
     let step = c.in-Ok.ensures t.0 t.1 t.2 (top_goes_on c.args.self.now.frames c.args.self.now.depth c.settled-depth.result (f.Items k.Flag 0) c.args.self.now.rest.now c.settled-depth.ensures.stack c.if-depth-eq0.false lt) in
-    next_within c.args.self.now.bytes.now c.args.self.now.rest.now c.in-Ok.step.rest.now c.args.self.now.within step.ended)
+    next_within c.args.self.now.bytes.now c.args.self.now.rest.now c.in-Ok.step.rest.now step.takes.0 c.args.self.now.within step.takes.2)
 
 pub invariant_of-self-2-clause-at_end : goal.invariant_of-self-2-clause-at_end
 invariant_of-self-2-clause-at_end c =
@@ -54,7 +61,7 @@ invariant_of-self-2-clause-at_end c =
     ∥∥₁_elim c.args.self.now.goes_on (equal_lists _ _) (λ (i : GoesOn c.args.self.now.frames c.args.self.now.depth c.args.self.now.rest.now).
     let t = top_left c.args.self.now.frames c.args.self.now.depth c.settled-depth.result (f.Items k.Flag 0) c.args.self.now.rest.now c.settled-depth.ensures.stack c.if-depth-eq0.false lt i.0 i.1 in
     let step = c.in-Ok.ensures t.0 t.1 t.2 (top_goes_on c.args.self.now.frames c.args.self.now.depth c.settled-depth.result (f.Items k.Flag 0) c.args.self.now.rest.now c.settled-depth.ensures.stack c.if-depth-eq0.false lt) in
-    next_at_end c.args.self.now.bytes.now c.args.self.now.rest.now c.in-Ok.step.rest.now c.args.self.now.at_end step.ended)
+    next_at_end c.args.self.now.bytes.now c.args.self.now.rest.now c.in-Ok.step.rest.now step.takes.0 c.args.self.now.at_end step.takes.2)
 
 pub returns-clause-left : goal.returns-clause-left
 returns-clause-left c es h =
@@ -68,8 +75,9 @@ returns-clause-left c es h =
 
 pub returns-then-depth-eq0-clause-front : goal.returns-then-depth-eq0-clause-front
 returns-then-depth-eq0-clause-front c e es end h =
-    none_in_front c.args.self.now.frames c.args.self.now.depth c.settled-depth.result (e ∷ es) c.args.self.now.rest.now end c.settled-depth.ensures.stack c.if-depth-eq0.true
-    (record { inner = h.inner; outer = h.outer; parts = h.parts; come = h.come })
+    let none = none_in_front c.args.self.now.frames c.args.self.now.depth c.settled-depth.result (e ∷ es) c.args.self.now.rest.now end c.settled-depth.ensures.stack c.if-depth-eq0.true
+    (record { inner = h.inner; outer = h.outer; parts = h.parts; come = h.come }) in
+    absurd cc
 
 pub returns-clause-front : goal.returns-clause-front
 returns-clause-front c e es end h =
@@ -100,3 +108,17 @@ returns-clause-opens c es h is =
       stands = c.args.self.now.at_end ∙ b.parts;
       next = record { inner = g.inner; outer = g.outer; parts = stack ∙ g.parts; come = subst (λ (z : List Event). Come (length g.outer) g.inner z c.in-Ok.step.rest.now step.mid) b.behind g.come };
     }
+
+pub returns-clause-moves : goal.returns-clause-moves
+returns-clause-moves c es h =
+    let lt : c.settled-depth.result - 1 < length c.args.self.now.frames = search (rules, arith) in
+    let t = top_left c.args.self.now.frames c.args.self.now.depth c.settled-depth.result (f.Items k.Flag 0) c.args.self.now.rest.now c.settled-depth.ensures.stack c.if-depth-eq0.false lt es h in
+    let step = c.in-Ok.ensures t.0 t.1 t.2 (top_goes_on c.args.self.now.frames c.args.self.now.depth c.settled-depth.result (f.Items k.Flag 0) c.args.self.now.rest.now c.settled-depth.ensures.stack c.if-depth-eq0.false lt) in
+    let bytes = c.args.self.now.bytes.now in
+    let rest = c.in-Ok.step.rest.now in
+    let behind = next_at_end bytes c.args.self.now.rest.now rest step.takes.0 c.args.self.now.at_end step.takes.2 in (
+      step.takes.0,
+      step.takes.1,
+      next_place bytes c.args.self.now.rest.now rest step.takes.0 c.args.self.now.within step.takes.2,
+      c.args.self.now.at_end ∙ step.takes.2 ∙ ap (λ (z : List ℕ). step.takes.0 ++ z) (sym behind),
+    )

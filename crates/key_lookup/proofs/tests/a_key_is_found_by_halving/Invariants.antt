@@ -1,4 +1,0 @@
-use Rattle.key_lookup.proofs.tests.a_key_is_found_by_halving.Given as goal
-
-abbrev pub ghosts-answers : goal.ghosts-answers
-ghosts-answers g a = record { name = a.blank.name; parts = a.blank.parts }

@@ -209,6 +209,7 @@ given_spelled S t id v xs rest le is others =
 
 mutual
   unfolding SpellsValue
+
   pub spelled : (l : ℕ) (t : TypeTree) (v : Value) → IsAccepted Any t → depth t ≤ l → Of (kinds_of t) v → SpellsValue l (wire_kind t) (wire t v) (binary t v)
   spelled l (scalar types.flag) _ a d (is.one {x = Truth b} h) = at_level l (node.flag b) (flag_byte b ∷ []) k.Flag (flag_spelled b)
   spelled l (scalar types.flag) _ a d (is.one {x = Number z} h) = absurd h

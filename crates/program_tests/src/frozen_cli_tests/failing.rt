@@ -1,7 +1,5 @@
 // Runs that read and write one byte at a time, in which a read or a write fails, for each of them in turn.
-use super::{
-    DEF, FILE, FIRST, Faults, LIST, LIST_DEF, MAP, MAP_DEF, NO_FAULTS, VALUE, run_line,
-};
+use super::{DEF, FILE, FIRST, Faults, LIST, LIST_DEF, MAP, MAP_DEF, NO_FAULTS, VALUE, run_line};
 use std::test::Fail;
 
 // A run by bytes.

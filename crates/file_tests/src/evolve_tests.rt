@@ -33,7 +33,8 @@ fn the_first_node_that_does_not_bind_is_told(rt: HostRuntime) -> Result<(), Fail
     let bytes = frozen_file(rt.alloc(), &file, tree.top())?;
     assert!(rt; bytes.len() < 1000);
     let opened = open_frozen(rt.alloc(), &bytes)?;
-    match bind(rt.alloc(), &own, &opened) {
+    let answer = bind(rt.alloc(), &own, &opened);
+    match &answer {
         Err(BindFault::TypeChanged(ids)) => assert!(rt; ids.as_slice() == [1, 3, 2, 3].as_slice()),
         _ => assert!(rt; false),
     }

@@ -13,7 +13,7 @@ pub mod Known
 pub mod Lacking
 pub mod Arms
 pub mod Fielded
-mod Walking
+pub mod Walking
 mod Fitting
 mod Adding
 mod FieldSteps

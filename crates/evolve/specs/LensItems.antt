@@ -1,12 +1,11 @@
 -- What a cursor over the items of a part has left.
-use Rattle.std.specs.Prelude.{◌≡◌, ◌⊎◌, Option, Some, None}
+use Rattle.std.specs.Prelude.{◌≡◌, ◌⊎◌, ℕ, zero, suc, Option, Some, None}
 use Rattle.idl_profile.specs.declared.kinds.TypeKind.TheVariants as kinds
 use Rattle.idl_profile.specs.Types.{TypeTree, kind_of}
 use Rattle.idl_parse.specs.Refs.{element_of, key_of, value_of}
 use Rattle.frozen_model.specs.Values.{Value, Values, NoValue, And}
 use Rattle.typed_tree.specs.Parts.{items_of}
 use Rattle.typed_tree.specs.Spots.{pair}
-use Rattle.bit_view.specs.Cursor.{from_place}
 use Rattle.evolve.specs.declared.items.LensItem.{LensItem}
 use Rattle.evolve.specs.declared.items.LensItem.TheVariants as item
 use Rattle.evolve.specs.declared.items.LensItems.{LensItems}
@@ -18,9 +17,16 @@ abbrev pub value_of_item : LensItem → Value
 value_of_item (item.One l) = value_of_lens l
 value_of_item (item.Pair key value) = pair (value_of_lens key) (value_of_lens value)
 
+-- the values from one place up to another, which is not among them; places are counted from 0, and past the
+-- last there is none
+abbrev pub from_to : Values → ℕ → ℕ → Values
+from_to (And v vs) zero (suc end) = And v (from_to vs zero end)
+from_to (And v vs) (suc first) (suc end) = from_to vs first end
+from_to vs first end = NoValue
+
 -- the items that are left
 abbrev pub items_left : LensItems → Values
-items_left i = from_place (items_of (value_of_lens (lens_of_row i.row))) i.next
+items_left i = from_to (items_of (value_of_lens (lens_of_row i.row))) i.next i.end
 
 -- the type of the list, set or map whose items they are
 abbrev pub type_left : LensItems → TypeTree

@@ -23,30 +23,29 @@ pub enum LensItem<'a> {
 pub struct LensItems<'a> {
     // The items, by their places.
     row: LensRow<'a>,
-    // How many there are.
-    len: u64,
     // The place of the next one.
     next: u64,
+    // The place behind the last one.
+    end: u64,
     ghost items: { ∥ IsItems (value_of_lens (lens_of_row row)) ∥₁ },
-    ghost counted: { len ≡ count (items_of (value_of_lens (lens_of_row row))) },
-    ghost within: { next ≤ len },
+    ghost within: { end ≤ count (items_of (value_of_lens (lens_of_row row))) },
 }
 
 impl<'a> LensItems<'a> {
     ghost use Rattle.std.specs.Prelude.{IfSome};
     ghost use Rattle.evolve.specs.Lenses.{type_of_lens};
-    ghost use Rattle.evolve.specs.LensItems.{items_left, type_left, IsNext, IsItemOf};
+    ghost use Rattle.evolve.specs.LensItems.{from_to, items_left, type_left, IsNext, IsItemOf};
 
-    /// The items of a list, a set or a map from the first on.
-    pub(crate) fn of(whole: Lens<'a>) -> LensItems<'a>
+    /// The items of a list, a set or a map from one place up to another.
+    pub(crate) fn of(whole: Lens<'a>, first: u64, end: u64) -> LensItems<'a>
         requires { IsItems (value_of_lens whole) }
-        ensures items { items_left result ≡ items_of (value_of_lens whole.entry) }
+        ensures items { items_left result ≡ from_to (items_of (value_of_lens whole.entry)) first end }
         ensures typed { type_left result ≡ type_of_lens whole.entry }
     {
         LensItems {
             row: whole.row(),
-            len: whole.len(),
-            next: 0,
+            next: first,
+            end: end.min(whole.len()),
         }
     }
 
@@ -56,7 +55,7 @@ impl<'a> LensItems<'a> {
         ensures typed { type_left self.new ≡ type_left self.old }
         ensures form { IfSome result (IsItemOf (type_left self.old)) }
     {
-        if self.next == self.len {
+        if self.next >= self.end {
             return None;
         }
         let place = self.next;

@@ -24,4 +24,4 @@ pub use lens::{Lacked, Lens, Stored};
 pub use plan::Plan;
 pub use root::root_lens;
 pub use row::{LensRow, StoredRow};
-pub use scanning::scan;
+pub use scanning::{scan, scan_places};

@@ -4,7 +4,7 @@ ghost use Rattle.frozen_model.specs.Values.{count, nth};
 ghost use Rattle.typed_tree.specs.Parts.{IsItems, items_of};
 ghost use Rattle.evolve.specs.Lenses.{type_of_lens, value_of_lens};
 ghost use Rattle.evolve.specs.LensRows.{lens_of_row};
-ghost use Rattle.evolve.specs.LensItems.{items_left, type_left, value_of_item, IsItemOf};
+ghost use Rattle.evolve.specs.LensItems.{from_to, items_left, type_left, value_of_item, IsItemOf};
 
 use crate::items::{LensItem, LensItems};
 use crate::lens::Lens;
@@ -17,7 +17,17 @@ pub fn scan<'a>(from: Lens<'a>) -> LensItems<'a>
     ensures items { items_left result ≡ items_of (value_of_lens from.entry) }
     ensures typed { type_left result ≡ type_of_lens from.entry }
 {
-    LensItems::of(from)
+    LensItems::of(from, 0, from.len())
+}
+
+/// The items of a list or a set, or the pairs of a map, at the places from `first` up to `end`, which is not
+/// among them; places are counted from 0, and past the last there is none. It takes no memory.
+pub fn scan_places<'a>(from: Lens<'a>, first: u64, end: u64) -> LensItems<'a>
+    requires { IsItems (value_of_lens from) }
+    ensures items { items_left result ≡ from_to (items_of (value_of_lens from.entry)) first end }
+    ensures typed { type_left result ≡ type_of_lens from.entry }
+{
+    LensItems::of(from, first, end)
 }
 
 // An item by its place from 0: one part of a list or a set, and two of a map.

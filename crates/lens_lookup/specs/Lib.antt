@@ -5,3 +5,4 @@ pub mod KeySorts
 pub mod LensKeys
 pub mod FoundSteps
 pub mod FittedPaths
+pub mod Intervals

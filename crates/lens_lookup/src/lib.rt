@@ -3,10 +3,12 @@
 
 mod fitted;
 mod fitting;
+mod interval;
 mod keys;
 mod path;
 mod steps;
 
 pub use fitted::FittedPath;
 pub use fitting::fit_path;
+pub use interval::between;
 pub use path::{lookup, lookup_fitted};

@@ -1,4 +1,4 @@
-use Rattle.std.proofs.Common.{arith, refl, ◌∙◌}
+use Rattle.std.proofs.Common.{refl}
 use Rattle.typed_tree.specs.Parts.{items_of}
 use Rattle.evolve.specs.Lenses.{value_of_lens}
 use Rattle.evolve.specs.LensRows.{lens_of_row}
@@ -8,10 +8,10 @@ use Rattle.evolve.proofs.items.LensItems.next.Goals as goal
 pub returns-then-self-clause-next : goal.returns-then-self-clause-next
 returns-then-self-clause-next c =
     let s = c.args.self.now in
-    none_is (items_of (value_of_lens (lens_of_row s.row))) s.next (c.if-self.true ∙ s.counted)
+    none_is (items_of (value_of_lens (lens_of_row s.row))) s.next s.end c.if-self.true
 
 pub returns-clause-next : goal.returns-clause-next
 returns-clause-next c =
     let s = c.args.self.now in
-    next_is (items_of (value_of_lens (lens_of_row s.row))) s.next _ c.item_at.result
-    (omega (arith, s.counted, s.within, c.if-self.false)) c.item_at.ensures.value refl
+    next_is (items_of (value_of_lens (lens_of_row s.row))) s.next _ s.end c.item_at.result
+    c.if-self.false s.within c.item_at.ensures.value refl

@@ -1,0 +1,4 @@
+pub mod Remaining
+pub mod Transcoded
+pub mod SpelledInBinary
+mod WorkedRows

@@ -1,0 +1,3 @@
+pub mod BinaryDecoding
+pub mod BinaryEncoding
+pub mod BinaryLaws

@@ -1,0 +1,4 @@
+pub mod Steps
+pub mod Climbing
+pub mod Answering
+mod WorkedRows

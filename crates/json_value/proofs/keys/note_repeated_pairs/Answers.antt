@@ -1,0 +1,15 @@
+use Rattle.std.proofs.Common.{◌+◌, ◌++◌, ◌∙◌, sym, ap, arith, drop}
+use Rattle.key_order.specs.Entries.{placed}
+use Rattle.serde_json.specs.View.{items_view}
+use Rattle.json_value.specs.Nodes.{nodes_in}
+use Rattle.json_value.specs.Faults.{keys_in_pairs}
+use Rattle.json_value.proofs.Climbing.{all_pairs_in}
+use Rattle.json_value.proofs.keys.note_repeated_pairs.Goals as goal
+
+pub note_repeat-requires : goal.note_repeat-requires
+note_repeat-requires c =
+    let vs = c.deref-item-items.result.now in
+    let next = c.requires.next ∙ ap (λ us. c.args.first + nodes_in (items_view us)) (sym c.deref-item-items.ensures.value) in
+    all_pairs_in vs c.loop-item.item-index c.loop-item.at c.args.kind c.args.first c.args.progress.now.next (placed c.as_mut_slice.result.now)
+    (omega (arith, c.loop-item-test.false, c.loop-item.auto.item-index-end, c.deref-item-items.ensures.len))
+    (ap (λ es. placed es ++ keys_in_pairs (items_view (drop c.loop-item.item-index vs)) c.args.kind c.loop-item.at) c.as_mut_slice.ensures.value ∙ c.loop-item.invariant.0) next

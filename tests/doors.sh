@@ -199,13 +199,13 @@ explanations() {
     run_on_terminal print refused
     explained 'a definition behind a byte order mark' 'definition 2 line 1' 'byte order mark'
     run_on_terminal get f d .x
-    explained 'a frozen file as a definition' 'definition 1' 'the definition looks like a frozen file'
+    explained 'a frozen file as a definition' 'definition 2 line 1' 'the definition looks like a frozen file'
     printf '{"x": 5}' >refused
     run_on_terminal freeze d refused
-    explained 'JSON as a value' 'value wire 2 at 0' 'the value looks like JSON'
+    explained 'JSON as a value' 'value wire 1' 'the value looks like JSON'
     printf '\010\000\001\000\000\000\005\000' >refused
     run_on_terminal freeze d refused
-    explained 'Binary Protocol as a value' 'value wire 2 at 1' 'the value looks like Binary Protocol'
+    explained 'Binary Protocol as a value' 'value wire 3 at 5' 'the value looks like Binary Protocol'
     run_on_terminal get d d .x
     explained 'a definition as a frozen file' 'file 1' 'the file is no frozen file'
     run_on_terminal print d
@@ -239,9 +239,9 @@ files_of_the_script() {
     cp made out
     check 'what it holds' 0 printed ''
     run freeze d d --output made
-    check 'an output file, of a refused value' 3 none_at_all 'value wire 2 at 0'
+    check 'an output file, of a refused value' 3 none_at_all 'value wire 2 at 7'
     cp made out
-    check 'it holds what it held' 3 printed 'value wire 2 at 0'
+    check 'it holds what it held' 3 printed 'value wire 2 at 7'
     run freeze d none --output unmade
     check 'an output file, of a missing value' 4 none_at_all 'value missing'
     [ ! -e unmade ] && [ "$(ls | grep -c '\.new$')" = 0 ] && passed=$((passed + 1)) || {

@@ -22,14 +22,14 @@ pub push_row-push_value-requires : goal.push_row-push_value-requires
 push_row-push_value-requires t c =
     let k = kinds_of (type_of_ref c.args.element) in
     let inside : c.loop-i.i < count (items_of (value_of_ref c.args.row)) = omega (arith, c.loop-i-test.true, c.len-count.ensures) in
-    (omega (arith, c.decreases), subst (Of k) (sym c.item.ensures) (each-at c.requires.items c.loop-i.i inside))
+    (omega (arith, c.decreases), subst (Of k) (sym c.item.ensures.value) (each-at c.requires.items c.loop-i.i inside))
 
 pub push_row-loop-i-preserved : goal.push_row-loop-i-preserved
 push_row-loop-i-preserved t c =
     let f = binary (type_of_ref c.args.element) in
     let vs = items_of (value_of_ref c.args.row) in
     let inside : c.loop-i.i < count vs = omega (arith, c.loop-i-test.true, c.len-count.ensures) in
-    item-more f vs c.loop-i.i c.loop-i.out.items c.push_value.new.out.items _ inside (c.in_ok-push_value.ensures ∙ ap (λ v. c.loop-i.out.items ++ f v) c.item.ensures) c.loop-i.invariant
+    item-more f vs c.loop-i.i c.loop-i.out.items c.push_value.new.out.items _ inside (c.in_ok-push_value.ensures ∙ ap (λ v. c.loop-i.out.items ++ f v) c.item.ensures.value) c.loop-i.invariant
 
 pub push_row-returns : goal.push_row-returns
 push_row-returns t c =
@@ -49,13 +49,13 @@ pub push_map-push_value-requires : goal.push_map-push_value-requires
 push_map-push_value-requires t c =
     let vs = items_of (value_of_ref c.args.map) in
     let inside : c.loop-i.i < count vs = omega (arith, c.loop-i-test.true, c.len-count.ensures) in
-    (omega (arith, c.decreases), key-of-pair (kinds_of (type_of_ref c.args.key)) (kinds_of (type_of_ref c.args.value)) vs c.loop-i.i _ _ c.requires.items inside c.entry.ensures)
+    (omega (arith, c.decreases), key-of-pair (kinds_of (type_of_ref c.args.key)) (kinds_of (type_of_ref c.args.value)) vs c.loop-i.i _ _ c.requires.items inside c.entry.ensures.pair)
 
 pub push_map-push_value-requires-in-loop-i : goal.push_map-push_value-requires-in-loop-i
 push_map-push_value-requires-in-loop-i t c =
     let vs = items_of (value_of_ref c.args.map) in
     let inside : c.loop-i.i < count vs = omega (arith, c.loop-i-test.true, c.len-count.ensures) in
-    (omega (arith, c.decreases), value-of-pair (kinds_of (type_of_ref c.args.key)) (kinds_of (type_of_ref c.args.value)) vs c.loop-i.i _ _ c.requires.items inside c.entry.ensures)
+    (omega (arith, c.decreases), value-of-pair (kinds_of (type_of_ref c.args.key)) (kinds_of (type_of_ref c.args.value)) vs c.loop-i.i _ _ c.requires.items inside c.entry.ensures.pair)
 
 pub push_map-loop-i-preserved : goal.push_map-loop-i-preserved
 push_map-loop-i-preserved t c =
@@ -63,7 +63,7 @@ push_map-loop-i-preserved t c =
     let g = binary (type_of_ref c.args.value) in
     let vs = items_of (value_of_ref c.args.map) in
     let inside : c.loop-i.i < count vs = omega (arith, c.loop-i-test.true, c.len-count.ensures) in
-    pair-more f g vs c.loop-i.i (value_of_ref c.entry.result.0) (value_of_ref c.entry.result.1) c.loop-i.out.items c.push_value.new.out.items c.push_value-in-loop-i.new.out.items _ inside c.entry.ensures
+    pair-more f g vs c.loop-i.i (value_of_ref c.entry.result.0) (value_of_ref c.entry.result.1) c.loop-i.out.items c.push_value.new.out.items c.push_value-in-loop-i.new.out.items _ inside c.entry.ensures.pair
     c.in_ok-push_value.ensures c.in_ok-push_value-2.ensures c.loop-i.invariant
 
 pub push_map-returns : goal.push_map-returns
@@ -94,7 +94,7 @@ push_fields-push_field-requires t c =
     let f = field_of_ref c.field_at.result in
     let h = struct-value of_type v c.requires.kind c.requires.value in
     let less = field-smaller of_type c.loop-i.i f c.field_at.ensures in
-    let is : value_of_ref c.field_at-in-loop-i.result ≡ nth (values_in v) c.loop-i.i = c.field_at-in-loop-i.ensures ∙ ap (nth (values_in v)) c.from.ensures in
+    let is : value_of_ref c.field_at-in-loop-i.result ≡ nth (values_in v) c.loop-i.i = c.field_at-in-loop-i.ensures.value ∙ ap (nth (values_in v)) c.from.ensures in
     (omega (arith, c.decreases, less), subst (Of (field_kinds f.need f.type)) (sym is) (field-value of_type v c.loop-i.i f h c.field_at.ensures))
 
 pub push_fields-loop-i-preserved : goal.push_fields-loop-i-preserved
@@ -106,7 +106,7 @@ push_fields-loop-i-preserved t c =
     let fs = all_fields of_type in
     let at : slice_get (field_list fs) c.loop-i.i ≡ Some f = subst (λ gs. slice_get gs c.loop-i.i ≡ Some f) h.list c.field_at.ensures in
     let inside : c.loop-i.i < count (values_in v) = omega (arith, c.loop-i-test.true, c.field_count-i-end.ensures, field-count of_type v h) in
-    let is : value_of_ref c.field_at-in-loop-i.result ≡ nth (values_in v) c.loop-i.i = c.field_at-in-loop-i.ensures ∙ ap (nth (values_in v)) c.from.ensures in
+    let is : value_of_ref c.field_at-in-loop-i.result ≡ nth (values_in v) c.loop-i.i = c.field_at-in-loop-i.ensures.value ∙ ap (nth (values_in v)) c.from.ensures in
     field-more fs (values_in v) c.loop-i.i f c.loop-i.out.items c.push_field.new.out.items _ at inside
     (c.in_ok-push_field.ensures ∙ ap (λ u. c.loop-i.out.items ++ field_in_binary f.need f.type f.id (binary f.type) u) is) c.loop-i.invariant
 
